@@ -1,0 +1,6 @@
+use mathlib.Core.Path.{sym, _∙_}
+use Rattle.encoding.proofs.BytesLaws.{number-of-2}
+use Rattle.encoding.proofs.little_endian.get_u16.Needs as need
+
+pub returns : need.returns
+returns c = c .from-le-bytes .ensures ∙ sym (number-of-2 (c .args .bytes .now) (c .pre))

@@ -1,0 +1,4 @@
+// The house: the state in which all offices of one forwarder work, over any shelf and any kind of value.
+pub mod fault;
+pub mod house;
+pub mod reading;

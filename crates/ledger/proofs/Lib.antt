@@ -1,0 +1,4 @@
+pub mod Views
+pub mod Positions
+pub mod FirstReadings
+pub mod Refusals

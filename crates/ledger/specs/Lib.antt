@@ -1,0 +1,10 @@
+pub mod Limits
+pub mod Faults
+pub mod Model
+pub mod Opening
+pub mod Reading
+pub mod Writing
+pub mod Delivering
+pub mod Answering
+pub mod Lookups
+pub mod View

@@ -1,0 +1,37 @@
+// What a command that is carried out tells, and its text.
+ghost use Rattle.std.specs.declared.option.Option.the-variants.{Some};
+ghost use Rattle.sheet.specs.Answers.{answer-text};
+use house::reading::Reading;
+use std::fmt;
+use values::amount::Amount;
+
+#[derive(Clone, Copy)]
+pub enum Answer {
+    // the command is done, and there is no more to tell
+    Done,
+    Read(Reading<Amount>),
+}
+
+pub impl fmt::Display for Answer as AnswerDisplay {
+    ghost shown = { λ a. Some (answer-text a) };
+
+    fn fmt<W: fmt::Write>(&self, f: &mut fmt::Formatter<W>) -> fmt::Result {
+        let reading = match *self {
+            Answer::Done => return write!(f, ""),
+            Answer::Read(reading) => reading,
+        };
+        match reading {
+            Reading::Blank => write!(f, " 0"),
+            Reading::Own(amount) => {
+                let currency = amount.currency().number();
+                let units = amount.units();
+                write!(f, " own {currency} {units}")
+            }
+            Reading::Version { number, value } => {
+                let currency = value.currency().number();
+                let units = value.units();
+                write!(f, " {number} {currency} {units}")
+            }
+        }
+    }
+}

@@ -1,0 +1,4 @@
+pub mod Refusals
+pub mod CurrencyLaws
+pub mod AmountLaws
+pub mod StandingLaws

@@ -1,0 +1,6 @@
+pub mod Limits
+pub mod Faults
+pub mod Currencies
+pub mod Amounts
+pub mod Standings
+pub mod Reencoding
