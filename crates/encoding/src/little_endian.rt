@@ -52,6 +52,13 @@ pub fn get_i64(bytes: &[u8]) -> i64
     ensures { λ r. ⌜ r ≡ toZ w64 (from-little-endian (now (bytes .entry))) ⌝ }
 {
     i64::from_le_bytes([
-        bytes[0], bytes[1], bytes[2], bytes[3], bytes[4], bytes[5], bytes[6], bytes[7],
+        bytes[0],
+        bytes[1],
+        bytes[2],
+        bytes[3],
+        bytes[4],
+        bytes[5],
+        bytes[6],
+        bytes[7],
     ])
 }

@@ -1,5 +1,7 @@
 // The calls of the house. Each takes any numbers; a refusal is an `Err` and leaves house and shelf as they were.
 ghost use mathlib.Core.Path.{_≡_};
+ghost use mathlib.Core.Bool.{true};
+ghost use Rattle.std.specs.Results.{isErr};
 ghost use Rattle.house.specs.Calls.{answered-jobs, open-told, open-after, withdraw-told, withdraw-after, read-told, read-after, write-told, write-after, reading-from};
 ghost use Rattle.house.specs.Faults.{kept};
 ghost use Rattle.house.specs.Model.{HouseModel, built, model};
@@ -24,13 +26,17 @@ impl<S: Shelf> House<S> {
     pub fn new(offices: u64, shelf: S) -> House<S>
         ensures { λ r. ⌜ model items room r ≡ built offices (items shelf) (room shelf) ⌝ }
     {
-        House { ledger: Ledger::new(offices), shelf }
+        House {
+            ledger: Ledger::new(offices),
+            shelf,
+        }
     }
 
     // Starts an amendment or an inspection under a job number of the caller's choice.
     pub fn open(&mut self, job: u64, kind: JobKind) -> Result<(), Fault>
         ensures told { λ r. ⌜ r ≡ open-told (model items room (now (self .entry))) job ⌝ }
         ensures after { λ r. ⌜ model items room (now (self .exit)) ≡ kept r (model items room (now (self .entry))) (open-after (model items room (now (self .entry))) job kind) ⌝ }
+        ensures shelf { λ _. ⌜ now (self .exit) .shelf ≡ now (self .entry) .shelf ⌝ }
     {
         self.ledger.open(job, kind)?;
         Ok(())
@@ -40,6 +46,7 @@ impl<S: Shelf> House<S> {
     pub fn withdraw(&mut self, job: u64) -> Result<(), Fault>
         ensures told { λ r. ⌜ r ≡ withdraw-told (model items room (now (self .entry))) job ⌝ }
         ensures after { λ r. ⌜ model items room (now (self .exit)) ≡ kept r (model items room (now (self .entry))) (withdraw-after (model items room (now (self .entry))) job) ⌝ }
+        ensures shelf { λ _. ⌜ now (self .exit) .shelf ≡ now (self .entry) .shelf ⌝ }
     {
         self.ledger.withdraw(job)?;
         Ok(())
@@ -60,7 +67,10 @@ impl<S: Shelf> House<S> {
             Source::Own { place } => Ok(Reading::Own(self.shelf.fetch(place)?)),
             Source::Installed { version, place } => {
                 let value = self.shelf.fetch(place)?;
-                Ok(Reading::Version { number: version, value })
+                Ok(Reading::Version {
+                    number: version,
+                    value,
+                })
             }
         }
     }
@@ -69,6 +79,7 @@ impl<S: Shelf> House<S> {
     pub fn read(&mut self, job: u64, record: u64) -> Result<Reading<S::Value>, Fault>
         ensures told { λ r. ⌜ r ≡ read-told (model items room (now (self .entry))) job «record» ⌝ }
         ensures after { λ r. ⌜ model items room (now (self .exit)) ≡ kept r (model items room (now (self .entry))) (read-after (model items room (now (self .entry))) job «record») ⌝ }
+        ensures shelf { λ _. ⌜ now (self .exit) .shelf ≡ now (self .entry) .shelf ⌝ }
     {
         let source = self.ledger.find(job, record)?;
         let reading = self.fetch(source)?;
@@ -80,6 +91,7 @@ impl<S: Shelf> House<S> {
     pub fn write(&mut self, job: u64, record: u64, value: S::Value) -> Result<(), Fault>
         ensures told { λ r. ⌜ r ≡ write-told (model items room (now (self .entry))) job «record» ⌝ }
         ensures after { λ r. ⌜ model items room (now (self .exit)) ≡ kept r (model items room (now (self .entry))) (write-after (model items room (now (self .entry))) job «record» value) ⌝ }
+        ensures shelf { λ r. ⌜ (isErr r ≡ true → now (self .exit) .shelf ≡ now (self .entry) .shelf) ⌝ }
     {
         self.ledger.check_write(job, record)?;
         let place = self.shelf.add(value)?;

@@ -27,8 +27,9 @@ unseen-at (x ∷ xs) r d h = by-test (eqb (x .«record») r) refl (unseen-at xs 
   where
     k : ℕ
     k = position (read-of r) xs
+
     by-test : (b : Bool) → eqb (x .«record») r ≡ b → (k < length xs → suc (getD xs k d .version) ≡ first-unseen xs r) →
-      suc (getD (x ∷ xs) (cond b 0 (suc k)) d .version) ≡ cond b (suc (x .version)) (first-unseen xs r)
+        suc (getD (x ∷ xs) (cond b 0 (suc k)) d .version) ≡ cond b (suc (x .version)) (first-unseen xs r)
     by-test true e ih = refl
     by-test false e ih = ih (grind arith)
 
@@ -50,20 +51,22 @@ place-at (x ∷ xs) r d h = by-test (eqb (x .«record») r) refl (place-at xs r 
   where
     k : ℕ
     k = position (write-of r) xs
+
     by-test : (b : Bool) → eqb (x .«record») r ≡ b → (k < length xs → getD xs k d .place ≡ written-place xs r) → getD (x ∷ xs) (cond b 0 (suc k)) d .place ≡ cond b (x .place) (written-place xs r)
     by-test true e ih = refl
     by-test false e ih = ih (grind arith)
 
 replaced-at : (xs : List Write) (r p : ℕ) (d : Write) → position (write-of r) xs < length xs →
-  set xs (position (write-of r) xs) (record { «record» = r; place = p; version = getD xs (position (write-of r) xs) d .version }) ≡ with-place xs r p
+    set xs (position (write-of r) xs) (record { «record» = r; place = p; version = getD xs (position (write-of r) xs) d .version }) ≡ with-place xs r p
 replaced-at [] r p d h = absurd (omega arith)
 replaced-at (x ∷ xs) r p d h = by-test (eqb (x .«record») r) refl (replaced-at xs r p d)
   where
     k : ℕ
     k = position (write-of r) xs
+
     by-test : (b : Bool) → eqb (x .«record») r ≡ b →
-      (k < length xs → set xs k (record { «record» = r; place = p; version = getD xs k d .version }) ≡ with-place xs r p) →
-      set (x ∷ xs) (cond b 0 (suc k)) (record { «record» = r; place = p; version = getD (x ∷ xs) (cond b 0 (suc k)) d .version }) ≡ cond b (record { «record» = r; place = p; version = x .version } ∷ xs) (x ∷ with-place xs r p)
+        (k < length xs → set xs k (record { «record» = r; place = p; version = getD xs k d .version }) ≡ with-place xs r p) →
+        set (x ∷ xs) (cond b 0 (suc k)) (record { «record» = r; place = p; version = getD (x ∷ xs) (cond b 0 (suc k)) d .version }) ≡ cond b (record { «record» = r; place = p; version = x .version } ∷ xs) (x ∷ with-place xs r p)
     by-test true e ih = refl
     by-test false e ih = ap (λ (l : List Write). x ∷ l) (ih (grind arith))
 
@@ -72,7 +75,7 @@ added-past [] r p h = refl
 added-past (x ∷ xs) r p h = by-test (eqb (x .«record») r) refl (added-past xs r p)
   where
     by-test : (b : Bool) → eqb (x .«record») r ≡ b → (length xs ≤ position (write-of r) xs → xs ++ record { «record» = r; place = p; version = 0 } ∷ [] ≡ with-place xs r p) →
-      x ∷ (xs ++ record { «record» = r; place = p; version = 0 } ∷ []) ≡ cond b (record { «record» = r; place = p; version = x .version } ∷ xs) (x ∷ with-place xs r p)
+        x ∷ (xs ++ record { «record» = r; place = p; version = 0 } ∷ []) ≡ cond b (record { «record» = r; place = p; version = x .version } ∷ xs) (x ∷ with-place xs r p)
     by-test true e ih = absurd (grind arith)
     by-test false e ih = ap (λ (l : List Write). x ∷ l) (ih (grind arith))
 

@@ -28,15 +28,25 @@ pub struct Ledger {
 }
 
 // The row of a job number that no call has taken.
-pub fn unused() -> Row
+pub(crate) fn unused() -> Row
     ensures { λ r. ⌜ row-view r ≡ unused-row ⌝ }
 {
     Row {
         kind: JobKind::Amendment,
         state: State::NeverOpened,
-        reads: Bounded::new(Read { record: 0, version: 0 }),
-        writes: Bounded::new(Write { record: 0, place: 0, version: 0 }),
-        exchanges: [Exchange { waiting: None, vote: None }; 8],
+        reads: Bounded::new(Read {
+            record: 0,
+            version: 0,
+        }),
+        writes: Bounded::new(Write {
+            record: 0,
+            place: 0,
+            version: 0,
+        }),
+        exchanges: [Exchange {
+            waiting: None,
+            vote: None,
+        }; 8],
     }
 }
 

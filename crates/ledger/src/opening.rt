@@ -32,7 +32,7 @@ fn end(row: &mut Row)
 }
 
 // The checks of an amendment that is to be open, in their order.
-pub fn check_open_amendment(row: &Row) -> Result<(), LedgerFault>
+pub(crate) fn check_open_amendment(row: &Row) -> Result<(), LedgerFault>
     ensures { λ r. ⌜ r ≡ told (refuse-if (is-never-opened (row-view (now (row .entry)) .state)) fault.NeverOpened (open-amendment (row-view (now (row .entry))) None)) tt ⌝ }
 {
     match (row.state, row.kind) {

@@ -7,7 +7,7 @@ use crate::job::State;
 use crate::ledger::Ledger;
 
 impl Ledger {
-    pub fn state(&self, job: u8) -> State
+    pub(crate) fn state(&self, job: u8) -> State
         ensures { λ r. ⌜ r ≡ row-of (view (now (self .entry))) job .state ⌝ }
     {
         self.rows[job as usize].state

@@ -62,7 +62,8 @@ pub impl Predicate<Version> for IsAnswered<'_> as VersionIsAnswered {
 fn is_new_read(row: &Row, record: u8) -> bool
     ensures { λ r. ⌜ r ≡ is-new (row-view (now (row .entry))) «record» ⌝ }
 {
-    listed_version(row.reads.as_slice(), record).is_none() && !is_written(row.writes.as_slice(), record)
+    listed_version(row.reads.as_slice(), record).is_none()
+        && !is_written(row.writes.as_slice(), record)
 }
 
 // The checks of a read by the job's row, in their order.
@@ -97,7 +98,10 @@ impl Ledger {
         let versions = &self.records[record as usize];
         match row.kind {
             JobKind::Amendment => versions.len() as u8,
-            JobKind::Inspection => highest(versions.as_slice(), &IsAnswered { rows: &self.rows }) as u8,
+            JobKind::Inspection => highest(
+                versions.as_slice(),
+                &IsAnswered { rows: &self.rows },
+            ) as u8,
         }
     }
 
@@ -110,7 +114,11 @@ impl Ledger {
         }
         let versions = self.records[record as usize].as_slice();
         let index = version as usize - 1;
-        let place = if index < versions.len() { versions[index].place } else { 0 };
+        let place = if index < versions.len() {
+            versions[index].place
+        } else {
+            0
+        };
         Source::Installed { version, place }
     }
 
@@ -148,7 +156,11 @@ impl Ledger {
         ensures { λ r. ⌜ r ≡ cond (is-new (row-of (view (now (self .entry))) job) «record») (Some (newest-of (view (now (self .entry))) (row-of (view (now (self .entry))) job) «record»)) None ⌝ }
     {
         let row = &self.rows[job as usize];
-        if is_new_read(row, record) { Some(self.newest(row, record)) } else { None }
+        if is_new_read(row, record) {
+            Some(self.newest(row, record))
+        } else {
+            None
+        }
     }
 
     // Lists a first reading; the read has been checked.

@@ -43,9 +43,20 @@ fn list_place(writes: &mut Bounded<Write, MOST_LISTED>, record: u8, place: u64)
     let index = write_index(listed, record);
     if index < listed.len() {
         let version = listed[index].version;
-        writes.replace(index, Write { record, place, version });
+        writes.replace(
+            index,
+            Write {
+                record,
+                place,
+                version,
+            },
+        );
     } else {
-        let _ = writes.push(Write { record, place, version: 0 });
+        let _ = writes.push(Write {
+            record,
+            place,
+            version: 0,
+        });
     }
 }
 

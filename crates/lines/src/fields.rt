@@ -37,7 +37,7 @@ fn behind_byte(first: u8, bytes: &[u8]) -> Option<&[u8]>
 }
 
 // A number behind one blank.
-pub fn field_at(bytes: &[u8]) -> Option<(u64, &[u8])>
+pub(crate) fn field_at(bytes: &[u8]) -> Option<(u64, &[u8])>
     ensures { λ r. ⌜ BySome r (field (now (bytes .entry)) ≡ None) (λ p. field (now (bytes .entry)) ≡ Some (p .0, p .1 .now)) ⌝ }
 {
     number_at(behind_byte(b' ', bytes)?)
@@ -60,7 +60,7 @@ fn signed_number_at(bytes: &[u8]) -> Option<(i64, &[u8])>
 }
 
 // A number behind one blank that may begin with a minus.
-pub fn signed_field_at(bytes: &[u8]) -> Option<(i64, &[u8])>
+pub(crate) fn signed_field_at(bytes: &[u8]) -> Option<(i64, &[u8])>
     ensures { λ r. ⌜ BySome r (signed-field (now (bytes .entry)) ≡ None) (λ p. signed-field (now (bytes .entry)) ≡ Some (p .0, p .1 .now)) ⌝ }
 {
     signed_number_at(behind_byte(b' ', bytes)?)

@@ -33,7 +33,7 @@ pub fn is_served(letter: Letter) -> bool
 }
 
 // The letter that a character is, if this version carries out its command.
-pub fn served_letter(c: char) -> Option<Letter>
+pub(crate) fn served_letter(c: char) -> Option<Letter>
     ensures { λ r. ⌜ r ≡ served-letter c ⌝ }
 {
     let chosen = letter(c)?;

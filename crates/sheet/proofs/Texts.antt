@@ -19,7 +19,7 @@ use Rattle.sheet.specs.declared.refusal.Refusal.{Refusal}
 
 -- what is written so far and what the lines that are left will write stay the same text
 pub line-written : (so-far then : List ℕ) (n : ℕ) (m m′ : HouseModel Amount) (all ls : List (List ℕ)) (l : List ℕ) (answer : Result Answer Cause) (told : Result Answer Refusal) →
-  all ≡ l ∷ ls → answer ≡ line-told m l → told ≡ numbered n answer → m′ ≡ line-after m l → then ≡ so-far ++ line-text n told → then ++ lines-text (n + 1) m′ ls ≡ so-far ++ lines-text n m all
+    all ≡ l ∷ ls → answer ≡ line-told m l → told ≡ numbered n answer → m′ ≡ line-after m l → then ≡ so-far ++ line-text n told → then ++ lines-text (n + 1) m′ ls ≡ so-far ++ lines-text n m all
 unfolding lines-text
 line-written so-far then n m m′ all ls l answer told e a b c w =
     ap (λ o. o ++ lines-text (n + 1) m′ ls) w

@@ -18,7 +18,13 @@ use shelves::shelf::Shelf;
 use values::amount::Amount;
 
 // A write of an amount that is given by its two numbers; the amount is made first.
-fn write_amount<S: Shelf<Value = Amount>>(house: &mut House<S>, job: u64, record: u64, currency: u64, units: i64) -> Result<(), Fault>
+fn write_amount<S: Shelf<Value = Amount>>(
+    house: &mut House<S>,
+    job: u64,
+    record: u64,
+    currency: u64,
+    units: i64,
+) -> Result<(), Fault>
     ensures told { λ r. ⌜ r ≡ write-amount-told (model items room (now (house .entry))) job «record» currency units ⌝ }
     ensures after { λ _. ⌜ model items room (now (house .exit)) ≡ write-amount-after (model items room (now (house .entry))) job «record» currency units ⌝ }
 {
@@ -26,7 +32,10 @@ fn write_amount<S: Shelf<Value = Amount>>(house: &mut House<S>, job: u64, record
     house.write(job, record, amount)
 }
 
-pub fn carry_out<S: Shelf<Value = Amount>>(house: &mut House<S>, command: Command) -> Result<Answer, Cause>
+pub(crate) fn carry_out<S: Shelf<Value = Amount>>(
+    house: &mut House<S>,
+    command: Command,
+) -> Result<Answer, Cause>
     ensures told { λ r. ⌜ r ≡ command-told (model items room (now (house .entry))) command ⌝ }
     ensures after { λ _. ⌜ model items room (now (house .exit)) ≡ command-after (model items room (now (house .entry))) command ⌝ }
 {
@@ -34,14 +43,22 @@ pub fn carry_out<S: Shelf<Value = Amount>>(house: &mut House<S>, command: Comman
         Command::OpenAmendment { job } => house.open(job, JobKind::Amendment)?,
         Command::OpenInspection { job } => house.open(job, JobKind::Inspection)?,
         Command::Read { job, record } => return Ok(Answer::Read(house.read(job, record)?)),
-        Command::Write { job, record, currency, units } => write_amount(house, job, record, currency, units)?,
+        Command::Write {
+            job,
+            record,
+            currency,
+            units,
+        } => write_amount(house, job, record, currency, units)?,
         Command::Withdraw { job } => house.withdraw(job)?,
         _ => return Err(Cause::Line(LineFault::UnknownLetter)),
     }
     Ok(Answer::Done)
 }
 
-pub fn carry_out_line<S: Shelf<Value = Amount>>(house: &mut House<S>, line: &[u8]) -> Result<Answer, Cause>
+pub(crate) fn carry_out_line<S: Shelf<Value = Amount>>(
+    house: &mut House<S>,
+    line: &[u8],
+) -> Result<Answer, Cause>
     ensures told { λ r. ⌜ r ≡ line-told (model items room (now (house .entry))) (now (line .entry)) ⌝ }
     ensures after { λ _. ⌜ model items room (now (house .exit)) ≡ line-after (model items room (now (house .entry))) (now (line .entry)) ⌝ }
 {

@@ -27,6 +27,7 @@ use values::amount::kind::AmountValue;
 
 // A house of so many offices over a byte shelf of so many bytes.
 const OFFICES: u64 = 2;
+
 const SHELF_BYTES: usize = 1024;
 
 fn write_answer(text: &mut String, line: usize, answer: Result<Answer, Refusal>) -> fmt::Result
@@ -57,7 +58,11 @@ fn write_end(text: &mut String, jobs: &[u8]) -> fmt::Result
 }
 
 // Carries out all lines of an input in a house, one after another.
-fn write_lines<S: Shelf<Value = Amount>>(text: &mut String, house: &mut House<S>, input: &[u8]) -> fmt::Result
+fn write_lines<S: Shelf<Value = Amount>>(
+    text: &mut String,
+    house: &mut House<S>,
+    input: &[u8],
+) -> fmt::Result
     ensures { λ r. ⌜ made r (λ _. string-bytes (now (text .exit)) ≡ string-bytes (now (text .entry)) ++ lines-text 1 (model items room (now (house .entry))) (lines-of (take most-input (now (input .entry))))) ⌝ }
 {
     let mut n = 1;

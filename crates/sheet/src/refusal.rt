@@ -70,7 +70,7 @@ pub impl fmt::Display for Refusal as RefusalDisplay {
 }
 
 // A refusal with the number of its line.
-pub fn at_line<T>(line: usize, answer: Result<T, Cause>) -> Result<T, Refusal>
+pub(crate) fn at_line<T>(line: usize, answer: Result<T, Cause>) -> Result<T, Refusal>
     ensures { λ r. ⌜ r ≡ numbered line answer ⌝ }
 {
     match answer {

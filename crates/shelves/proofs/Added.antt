@@ -33,7 +33,7 @@ module _ {V : Type 0} (items : List V) where
   fetched-last value =
       let l : length items < length (items ++ value ∷ []) = omega (arith, length-push items value) in
       ap (λ o. okOr o NoSuchPlace) (nth-getD (items ++ value ∷ []) (length items) value l
-        ∙ ap (λ x. Some x) (getD-push items value value (length items) refl))
+      ∙ ap (λ x. Some x) (getD-push items value value (length items) refl))
 
 -- a value that was added is fetched again at the place that was told
 module _ {V : Type 0} (items after : List V) (room place : ℕ) (value : V) where

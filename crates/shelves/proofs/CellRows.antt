@@ -1,7 +1,7 @@
 -- A row of cells: how many values it means, one more, and the one at a place.
 use mathlib.Core.Path.{_≡_, sym, ap, _∙_}
 use mathlib.Core.List.{List, [], _∷_, _++_, map}
-use Prim.Native.Nat.{ℕ, _+_, _<_, _≤_, min}
+use Prim.Native.Nat.{ℕ, _+_, _<_, min}
 use native.Mathlib.Omega.{arith}
 use lib.ListN.{length, take, getD, set}
 use Rattle.std.proofs.shelf.Lists.{length-map, length-set, length-take-le, take-more-set, map-push, getD-map, getD-take}
@@ -44,6 +44,6 @@ module _ {V C : Type 0} (kind : Kind V C) where
       let m : i < length (take k cs) = omega (arith, length-take-le k cs (omega arith)) in
       let b : i < length (values-in kind n cs) = omega (arith, length-values n cs) in
       ap (λ o. okOr o NoSuchPlace) (nth-getD (values-in kind n cs) i (kind .fallback) b
-        ∙ ap (λ x. Some x) (getD-map (value-in kind) (take k cs) i d (kind .fallback) m
-        ∙ ap (value-in kind) (getD-take k cs i d (omega arith))
-        ∙ sym (e d)))
+      ∙ ap (λ x. Some x) (getD-map (value-in kind) (take k cs) i d (kind .fallback) m
+      ∙ ap (value-in kind) (getD-take k cs i d (omega arith))
+      ∙ sym (e d)))

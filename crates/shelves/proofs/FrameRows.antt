@@ -1,5 +1,5 @@
 -- Frames in a row of bytes: where one lies, how many values they mean, one more, and the one at a place.
-use mathlib.Core.Path.{_≡_, refl, sym, ap, _∙_}
+use mathlib.Core.Path.{_≡_, sym, ap, _∙_}
 use mathlib.Core.List.{List, [], _∷_, _++_, map}
 use Prim.Native.Nat.{ℕ, suc, _+_, _*_, _/_, _-_, _<_, _≤_, min}
 use native.Mathlib.Nat.{suc-mul, mul-le-mul-right, div-mul-le-self}
@@ -60,8 +60,8 @@ module _ {V C : Type 0} (kind : Kind V C) where
 
   -- a frame behind the first n: as many bytes, the same values, and the frame's
   pub values-more : (n : ℕ) (bs : List ℕ) (v : V) (new : List ℕ) → n < frames-in kind (length bs) → length (kind .bytes v) ≡ kind .width → kind .parsed (kind .bytes v) ≡ Some v
-    → new ≡ with-frame kind bs n v
-    → (length new ≡ length bs) × (values-in kind (n + 1) new ≡ values-in kind n bs ++ v ∷ [])
+      → new ≡ with-frame kind bs n v
+      → (length new ≡ length bs) × (values-in kind (n + 1) new ≡ values-in kind n bs ++ v ∷ [])
   values-more n bs v new h e p f =
       let w = kind .width in
       let s = frame-size kind in
@@ -72,21 +72,22 @@ module _ {V C : Type 0} (kind : Kind V C) where
       let rest : length (drop (n * s + s) bs) ≡ length bs - (n * s + s) = length-drop (n * s + s) bs in
       let len : length new ≡ length bs = ap length f ∙ simp length-append (omega (arith, front, rest, end, e)) in
       let mid : take w (drop (n * s + frame-head) new) ≡ body =
-        ap (λ x. take w (drop (n * s + frame-head) x)) f
-        ∙ part-in (take (n * s) bs) (little-endian 4 (2 + length body) ++ little-endian 2 (kind .kind)) body (drop (n * s + s) bs) (n * s + frame-head) w (omega arith) e in
+      ap (λ x. take w (drop (n * s + frame-head) x)) f
+      ∙ part-in (take (n * s) bs) (little-endian 4 (2 + length body) ++ little-endian 2 (kind .kind)) body (drop (n * s + s) bs) (n * s + frame-head) w (omega arith) e in
       let here : value-in-frame kind new n ≡ v = ap (λ x. valueOr (kind .parsed x) (kind .fallback)) mid ∙ ap (λ o. valueOr o (kind .fallback)) p in
       let there : (k : ℕ) → k < n → value-in-frame kind new k ≡ value-in-frame kind bs k =
-        λ k l. ap (λ x. valueOr (kind .parsed x) (kind .fallback)) (ap (λ x. take w (drop (k * s + frame-head) x)) f
-          ∙ part-before bs (framed ++ drop (n * s + s) bs) (k * s + frame-head) w (n * s) (omega (arith, earlier s k n l)) (omega arith)) in
+      λ k l. ap (λ x. valueOr (kind .parsed x) (kind .fallback)) (ap (λ x. take w (drop (k * s + frame-head) x)) f
+      ∙ part-before bs (framed ++ drop (n * s + s) bs) (k * s + frame-head) w (n * s) (omega (arith, earlier s k n l)) (omega arith)) in
       let same : map (value-in-frame kind bs) (counting 0 n) ≡ map (value-in-frame kind new) (counting 0 n) =
-        fill-by-all (value-in-frame kind new) (map (value-in-frame kind bs) (counting 0 n)) n (kind .fallback)
-        (length-map-counting (value-in-frame kind bs) 0 n)
-        (λ k l. getD-map-counting (value-in-frame kind bs) 0 n k k (kind .fallback) l (omega arith) ∙ sym (there k l)) in
+      fill-by-all (value-in-frame kind new) (map (value-in-frame kind bs) (counting 0 n)) n (kind .fallback)
+      (length-map-counting (value-in-frame kind bs) 0 n)
+      (λ k l. getD-map-counting (value-in-frame kind bs) 0 n k k (kind .fallback) l (omega arith) ∙ sym (there k l)) in
       let more : min (n + 1) (frames-in kind (length new)) ≡ n + 1 = omega (arith, ap (frames-in kind) len) in
-      let less : min n (frames-in kind (length bs)) ≡ n = omega arith in
-      (len,
-       ap (λ x. map (value-in-frame kind new) (counting 0 x)) more
-       ∙ map-counting-more (value-in-frame kind new) 0 n n (omega arith)
-       ∙ ap (λ x. x ++ value-in-frame kind new n ∷ []) (sym same)
-       ∙ ap (λ y. map (value-in-frame kind bs) (counting 0 n) ++ y ∷ []) here
-       ∙ ap (λ x. map (value-in-frame kind bs) (counting 0 x) ++ v ∷ []) (sym less))
+      let less : min n (frames-in kind (length bs)) ≡ n = omega arith in (
+        len,
+        ap (λ x. map (value-in-frame kind new) (counting 0 x)) more
+            ∙ map-counting-more (value-in-frame kind new) 0 n n (omega arith)
+            ∙ ap (λ x. x ++ value-in-frame kind new n ∷ []) (sym same)
+            ∙ ap (λ y. map (value-in-frame kind bs) (counting 0 n) ++ y ∷ []) here
+            ∙ ap (λ x. map (value-in-frame kind bs) (counting 0 x) ++ v ∷ []) (sym less),
+      )

@@ -46,6 +46,7 @@ pub impl<'a, V: Value> Shelf for ByteShelf<'a, V> as ByteShelfShelf {
     type Value = V;
 
     ghost items = { byte-items V·Value };
+
     ghost room = { byte-room V·Value };
 
     // As every shelf; and the frame at the place told is the value's, while all other bytes are as before.

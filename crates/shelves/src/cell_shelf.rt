@@ -35,6 +35,7 @@ pub impl<'a, V: Value> Shelf for CellShelf<'a, V> as CellShelfShelf {
     type Value = V;
 
     ghost items = { cell-items V·Value };
+
     ghost room = { cell-room };
 
     // As every shelf; and the cell at the place told is the value's, while all other cells are as before.

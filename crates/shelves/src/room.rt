@@ -6,7 +6,7 @@ ghost use Rattle.shelves.specs.Room.{room-of};
 pub const MOST_PLACES: usize = 4096;
 
 // How many places are used where memory has so many.
-pub fn room_of(places: usize) -> usize
+pub(crate) fn room_of(places: usize) -> usize
     ensures { λ r. ⌜ r ≡ room-of places ⌝ }
 {
     places.min(MOST_PLACES)

@@ -2,7 +2,7 @@
 use mathlib.Core.Path.{_≡_, refl, sym, ap, subst, _∙_}
 use mathlib.Core.Bool.{Bool, true, false, cond}
 use mathlib.Core.HLevel.{isProp→PathP}
-use mathlib.Core.List.{List, [], _∷_, _++_}
+use mathlib.Core.List.{List, _++_}
 use Prim.Native.Nat.{ℕ, _<_, _≤_, _^_}
 use native.Mathlib.Omega.{arith}
 use denote.Struct.Props.{≤ℤ-prop}
@@ -37,7 +37,8 @@ amount-ext a b p q = λ i. record {
   currency = p i;
   units = q i;
   low = isProp→PathP (λ j. least-units ≤ℤ q j) (λ j. ≤ℤ-prop) (a .low) (b .low) i;
-  high = isProp→PathP (λ j. q j ≤ℤ most-units) (λ j. ≤ℤ-prop) (a .high) (b .high) i }
+  high = isProp→PathP (λ j. q j ≤ℤ most-units) (λ j. ≤ℤ-prop) (a .high) (b .high) i;
+}
 
 -- a test cannot fail where its fact holds
 clash : (b : Bool) → b ≡ false → T b → ⊥

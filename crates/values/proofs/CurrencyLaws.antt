@@ -3,7 +3,7 @@ use mathlib.Core.Path.{_≡_, refl}
 use Prim.Native.Nat.{ℕ, _<_}
 use native.Mathlib.Omega.{arith}
 use lib.Dec.{lit<}
-use Rattle.std.specs.declared.option.Option.the-variants.{Some, None}
+use Rattle.std.specs.declared.option.Option.the-variants.{Some}
 use Rattle.values.specs.Currencies.{currency-number, currency-of}
 use Rattle.values.specs.declared.currency.Currency.{Currency}
 use Rattle.values.specs.declared.currency.Currency.the-variants.{Usd, Eur, Gbp, Hrk, Jpy, Kwd}

@@ -1,17 +1,16 @@
 -- A standing is its two numbers; its bytes and its cell give it back.
-use mathlib.Core.Path.{_≡_, refl, sym, ap, subst, _∙_}
+use mathlib.Core.Path.{_≡_, refl, sym, ap, _∙_}
 use mathlib.Core.Bool.{Bool, true, false, cond}
 use mathlib.Core.HLevel.{isProp→PathP}
 use mathlib.Core.List.{List, [], _∷_}
-use Prim.Native.Nat.{ℕ, _<_, _≤_, _/_, _%_}
+use Prim.Native.Nat.{ℕ, _<_, _≤_}
 use native.Mathlib.Bridge.{le-prop}
 use native.Mathlib.Omega.{arith}
 use lib.Dec.{eqb, ltb, leb}
 use lib.ListN.{length, getD, take, drop}
 use Rattle.std.proofs.shelf.Lists.{length-drop, take-all}
-use Rattle.std.proofs.shelf.Tests.{eqb-true, eq-eqb, ltb-false, leb-true, leb-false, cond-true}
+use Rattle.std.proofs.shelf.Tests.{eqb-true, eq-eqb, ltb-false, leb-false, cond-true}
 use Rattle.std.specs.Options.{mapped}
-use Rattle.std.specs.declared.option.Option.{Option}
 use Rattle.std.specs.declared.option.Option.the-variants.{Some, None}
 use Rattle.encoding.specs.Bytes.{little-endian, from-little-endian, Octets}
 use Rattle.values.specs.Limits.{days, most-reason}

@@ -38,12 +38,19 @@ pub trait Value: Copy {
     ghost fallback: { Self };
 
     law width_positive: { 0 < width };
+
     law width_limit: { width ≤ 32 };
+
     law kind_limit: { kind < 65536 };
+
     law bytes_width: { (v : Self) → length (bytes v) ≡ width };
+
     law parsed_bytes: { (v : Self) → parsed (bytes v) ≡ Some v };
+
     law bytes_parsed: { (s : List ℕ) (v : Self) → Octets s → parsed s ≡ Some v → bytes v ≡ s };
+
     law restored_cell: { (v : Self) → restored (cell v) ≡ Some v };
+
     law cell_restored: { (c : Self·Cell) (v : Self) → restored c ≡ Some v → cell v ≡ c };
 
     // The kind's number.

@@ -31,7 +31,9 @@ impl Amount {
     pub fn from_numbers(currency: u64, units: i64) -> Result<Amount, ValueFault>
         ensures { λ r. ⌜ r ≡ amount-from-numbers currency units ⌝ }
     {
-        let listed = Currency::from_number(currency)?;
+        let Ok(listed) = Currency::from_number(currency) else {
+            return Err(ValueFault::UnlistedCurrency);
+        };
         Amount::new(listed, units)
     }
 
@@ -53,15 +55,23 @@ impl Amount {
 // Kind 1: two bytes of currency number, and eight bytes of units in two's complement.
 pub impl Value for Amount as AmountValue {
     const KIND: u16 = 1;
+
     const WIDTH: usize = 10;
+
     type Cell = AmountCell;
 
     ghost kind = { 1 };
+
     ghost width = { 10 };
+
     ghost bytes = { amount-bytes };
+
     ghost parsed = { amount-in };
+
     ghost cell = { amount-cell };
+
     ghost restored = { amount-in-cell };
+
     ghost fallback = { spare-amount };
 
     fn kind_number() -> u16 {
@@ -87,7 +97,9 @@ pub impl Value for Amount as AmountValue {
         }
         let currency = get_u16(&encoded[0..2]);
         let units = get_i64(&encoded[2..10]);
-        Amount::from_numbers(currency as u64, units).ok().ok_or(ValueFault::NotAValue)
+        Amount::from_numbers(currency as u64, units)
+            .ok()
+            .ok_or(ValueFault::NotAValue)
     }
 
     fn to_cell(self) -> AmountCell {
@@ -98,7 +110,9 @@ pub impl Value for Amount as AmountValue {
     }
 
     fn from_cell(stored: AmountCell) -> Result<Amount, ValueFault> {
-        Amount::from_numbers(stored.currency as u64, stored.units).ok().ok_or(ValueFault::NotAValue)
+        Amount::from_numbers(stored.currency as u64, stored.units)
+            .ok()
+            .ok_or(ValueFault::NotAValue)
     }
 
     fn spare() -> Amount {

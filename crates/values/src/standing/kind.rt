@@ -1,8 +1,7 @@
 // How standings are made, and standings as a kind of value.
 ghost use mathlib.Core.Path.{_≡_};
 ghost use Rattle.std.specs.Options.{okOr};
-ghost use Rattle.std.specs.declared.option.Option.the-variants.{Some};
-ghost use Rattle.values.specs.Standings.{day-of, reason-of, standing-of, standing-state, standing-number, standing-bytes, standing-in, standing-cell, standing-in-cell, spare-standing};
+ghost use Rattle.values.specs.Standings.{reason-of, standing-of, standing-state, standing-number, standing-bytes, standing-in, standing-cell, standing-in-cell, spare-standing};
 ghost use Rattle.values.specs.declared.fault.ValueFault.the-variants.{OutOfRange};
 use super::Day;
 use super::MOST_REASON;
@@ -15,13 +14,15 @@ use encoding::little_endian::get_u32;
 use encoding::little_endian::put_u32;
 
 const LODGED: u8 = 1;
+
 const RELEASED: u8 = 2;
+
 const STOPPED: u8 = 3;
 
 impl Day {
     // The day with a number; every number of four bytes is a day's.
     pub fn new(number: u32) -> Day
-        ensures { λ r. ⌜ day-of number ≡ Some r ⌝ }
+        ensures { λ r. ⌜ r .number ≡ number ⌝ }
     {
         Day { number }
     }
@@ -39,13 +40,12 @@ impl Reason {
     pub fn new(number: u64) -> Result<Reason, ValueFault>
         ensures { λ r. ⌜ r ≡ okOr (reason-of number) OutOfRange ⌝ }
     {
-        if number <= MOST_REASON {
-            Ok(Reason {
-                number: number as u8,
-            })
-        } else {
-            Err(ValueFault::OutOfRange)
+        if number > MOST_REASON {
+            return Err(ValueFault::OutOfRange);
         }
+        Ok(Reason {
+            number: number as u8,
+        })
     }
 
     // The reason's number.
@@ -98,15 +98,23 @@ impl Standing {
 // Kind 2: a byte for the state, and the day or the reason in four bytes.
 pub impl Value for Standing as StandingValue {
     const KIND: u16 = 2;
+
     const WIDTH: usize = 5;
+
     type Cell = StandingCell;
 
     ghost kind = { 2 };
+
     ghost width = { 5 };
+
     ghost bytes = { standing-bytes };
+
     ghost parsed = { standing-in };
+
     ghost cell = { standing-cell };
+
     ghost restored = { standing-in-cell };
+
     ghost fallback = { spare-standing };
 
     fn kind_number() -> u16 {

@@ -13,7 +13,7 @@ use Rattle.ledger.proofs.writing.list_place.Needs as need
 pub returns-then-index-listed : need.returns-then-index-listed
 returns-then-index-listed c =
     let e =
-      place-replaced (c .as-slice-listed .result .now) (c .args .«record») (c .write-index-index .result) (c .args .place) (record { «record» = 0; place = 0; version = 0 }) (c .write-index-index .ensures .value) (c .if-index-listed .taken)
+    place-replaced (c .as-slice-listed .result .now) (c .args .«record») (c .write-index-index .result) (c .args .place) (record { «record» = 0; place = 0; version = 0 }) (c .write-index-index .ensures .value) (c .if-index-listed .taken)
     in
     cc
 

@@ -19,4 +19,5 @@ returns-in-Ok g c =
     let test : eqb (length out) (m .width) ≡ reencodes m s out = ap (λ o. cond (isSome o) (eqb (length out) (m .width)) false) (sym p) in
     record {
       told = c .encode .ensures .told ∙ test;
-      copied = c .encode .ensures .written ∙ ap (λ x. cond (eqb (length out) (m .width)) x out) same ∙ ap (λ b. cond b s out) test }
+      copied = c .encode .ensures .written ∙ ap (λ x. cond (eqb (length out) (m .width)) x out) same ∙ ap (λ b. cond b s out) test;
+    }

@@ -15,7 +15,8 @@ list-version-requires c κs =
 
 pub returns-in-Some : need.returns-in-Some
 returns-in-Some c = record {
-    after =
+  after =
       view-put-row (λ x. with-read x (c .args .«record») (c .in-Some .version)) (c .args .self .now) (c .args .job) _ (c .list-version .ensures)
       ∙ first-is-listed (view (c .args .self .now)) (c .args .job) (c .args .«record») (c .in-Some .version) (c .in-Some .ensures tt);
-    offices = search needs }
+  offices = search needs;
+}

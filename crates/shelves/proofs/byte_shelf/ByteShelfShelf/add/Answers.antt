@@ -32,4 +32,5 @@ returns g c =
       same = λ q. absurd (omega (arith, q, l));
       keeps = ap (frames-in m) (f .0);
       written = c .put-frame .ensures ∙ ap (λ k. with-frame m bs k v) (sym e) ∙ sym (spacious vs _ _ _ l);
-      named = refl }
+      named = refl;
+    }

@@ -28,10 +28,11 @@ returns g c =
     record {
       told = sym (told-next vs (s .len) _ e h);
       holds =
-        ap (values-in m (s .len + 1)) (c .put-value .ensures)
-        ∙ values-more m (s .len) cs _ v h (g .V·Value·met .«restored_cell» v)
-        ∙ sym (spacious vs _ _ _ l);
+          ap (values-in m (s .len + 1)) (c .put-value .ensures)
+          ∙ values-more m (s .len) cs _ v h (g .V·Value·met .«restored_cell» v)
+          ∙ sym (spacious vs _ _ _ l);
       same = λ q. absurd (omega (arith, q, l));
       keeps = omega (arith, ap length (c .put-value .ensures), length-set cs (s .len) (m .cell v));
       written = c .put-value .ensures ∙ ap (λ k. set cs k (m .cell v)) (sym e) ∙ sym (spacious vs _ _ _ l);
-      named = refl }
+      named = refl;
+    }

@@ -9,5 +9,5 @@ use Rattle.values.proofs.amount.Amount.from_numbers.Needs as need
 pub returns : need.returns
 returns c =
     c .new .ensures
-    ∙ ap (λ z. okOr (amount-of (c .in-Continue-listed .listed) z) OutOfRange) (toZ-ofZ w64 (c .args .units) (c .fits .units))
-    ∙ ap (λ r. amount-in-currency r (c .args .units)) (c .in-Continue-listed .ensures tt)
+    ∙ ap (λ z. okOr (amount-of (c .in-Ok .listed) z) OutOfRange) (toZ-ofZ w64 (c .args .units) (c .fits .units))
+    ∙ ap (λ r. amount-in-currency r (c .args .units)) (c .in-Ok .ensures tt)

@@ -4,5 +4,5 @@ use Rattle.values.specs.declared.fault.ValueFault.the-variants.{OutOfRange}
 use Rattle.values.proofs.StandingLaws.{reason-of-is}
 use Rattle.values.proofs.standing.Reason.new.Needs as need
 
-pub returns-then-number-le-MOST-REASON : need.returns-then-number-le-MOST-REASON
-returns-then-number-le-MOST-REASON c = sym (ap (λ o. okOr o OutOfRange) (reason-of-is _ (c .args .number) refl))
+pub returns : need.returns
+returns c = sym (ap (λ o. okOr o OutOfRange) (reason-of-is _ (c .args .number) refl))

@@ -14,5 +14,5 @@ returns c =
     let z = c .get-i64-units .result in
     c .ok-or .ensures .value
     ∙ ap (λ o. okOr o NotAValue) (c .ok .ensures .value ∙ ap okPart (c .from-numbers .ensures)
-      ∙ ap (amount-if-any n) (toZ-ofZ w64 z (record { sfits = c .get-i64-units .ok }))
-      ∙ sym (amount-in-is (c .args .encoded .now) n z (c .if-encoded-ne-WIDTH .left) (c .get-u16-currency .ensures) (c .get-i64-units .ensures)))
+    ∙ ap (amount-if-any n) (toZ-ofZ w64 z (record { sfits = c .get-i64-units .ok }))
+    ∙ sym (amount-in-is (c .args .encoded .now) n z (c .if-encoded-ne-WIDTH .left) (c .get-u16-currency .ensures) (c .get-i64-units .ensures)))

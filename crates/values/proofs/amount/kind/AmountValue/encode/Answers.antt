@@ -1,4 +1,4 @@
-use mathlib.Core.Path.{_≡_, refl, sym, ap, _∙_}
+use mathlib.Core.Path.{_≡_, sym, ap, _∙_}
 use mathlib.Core.Bool.{true}
 use mathlib.Core.List.{_++_}
 use lib.Dec.{eqb}
@@ -22,7 +22,8 @@ returns c =
     record {
       told = sym test;
       written =
-        two-parts out (c .put-u16 .last .out) (c .put-i64 .last .out) 2 8 ten (ap length (c .put-u16 .ensures))
-        ∙ ap (λ x. x ++ c .put-i64 .last .out) (c .put-u16 .ensures ∙ ap (little-endian 2) (c .number .ensures))
-        ∙ ap (λ x. little-endian 2 (currency-number (a .currency)) ++ x) (c .put-i64 .ensures ∙ ap (λ z. little-endian 8 (ofZ w64 z)) (toZ-ofZ w64 (a .units) (units-fit a)))
-        ∙ sym (cond-true (eqb (length out) 10) _ _ test) }
+          two-parts out (c .put-u16 .last .out) (c .put-i64 .last .out) 2 8 ten (ap length (c .put-u16 .ensures))
+          ∙ ap (λ x. x ++ c .put-i64 .last .out) (c .put-u16 .ensures ∙ ap (little-endian 2) (c .number .ensures))
+          ∙ ap (λ x. little-endian 2 (currency-number (a .currency)) ++ x) (c .put-i64 .ensures ∙ ap (λ z. little-endian 8 (ofZ w64 z)) (toZ-ofZ w64 (a .units) (units-fit a)))
+          ∙ sym (cond-true (eqb (length out) 10) _ _ test);
+    }

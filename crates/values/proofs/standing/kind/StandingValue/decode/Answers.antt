@@ -8,4 +8,4 @@ pub returns : need.returns
 returns c =
     c .ok-or .ensures .value
     ∙ ap (λ o. okOr o NotAValue) (c .from-numbers .ensures
-      ∙ sym (standing-in-is (c .args .encoded .now) _ (c .get-u32-number .result) (c .if-encoded-ne-WIDTH .left) refl (c .get-u32-number .ensures)))
+    ∙ sym (standing-in-is (c .args .encoded .now) _ (c .get-u32-number .result) (c .if-encoded-ne-WIDTH .left) refl (c .get-u32-number .ensures)))

@@ -1,4 +1,4 @@
-use mathlib.Core.Path.{_≡_, refl, sym, ap, _∙_}
+use mathlib.Core.Path.{_≡_, sym, ap, _∙_}
 use mathlib.Core.Bool.{true}
 use mathlib.Core.List.{_∷_}
 use lib.Dec.{eqb}
@@ -19,8 +19,9 @@ returns c =
     record {
       told = sym test;
       written =
-        after-first out (c .state .result) (c .put-u32 .last .out) 4 five
-        ∙ ap (λ k. k ∷ c .put-u32 .last .out) (c .state .ensures)
-        ∙ ap (λ x. standing-state v ∷ x) (c .put-u32 .ensures ∙ ap (little-endian 4) (c .number .ensures))
-        ∙ sym (bytes-are v)
-        ∙ sym (cond-true (eqb (length out) 5) _ _ test) }
+          after-first out (c .state .result) (c .put-u32 .last .out) 4 five
+          ∙ ap (λ k. k ∷ c .put-u32 .last .out) (c .state .ensures)
+          ∙ ap (λ x. standing-state v ∷ x) (c .put-u32 .ensures ∙ ap (little-endian 4) (c .number .ensures))
+          ∙ sym (bytes-are v)
+          ∙ sym (cond-true (eqb (length out) 5) _ _ test);
+    }
