@@ -7,8 +7,9 @@ returns g c =
     let m = g .S·Shelf in
     let s = c .args .shelf .now in
     let told = sym (c .add .ensures .told) ∙ c .in-Continue-place .was tt in
+    let again = added-then-fetched (m .items s) (m .items (c .add .last .self)) (m .room s) (c .in-Continue-place .place) (c .args .value) told (c .add .ensures .holds) in
     record {
-      told = c .fetch .ensures ∙ added-then-fetched (m .items s) (m .items (c .add .last .self)) (m .room s) (c .in-Continue-place .place) (c .args .value) told (c .add .ensures .holds);
+      told = cc;
       holds = c .add .ensures .holds;
       keeps = c .add .ensures .keeps;
     }
