@@ -19,11 +19,13 @@ abbrev pub fault-number : Fault → ℕ
 fault-number (fault.Ledger f) = ledger-fault-number f
 fault-number (fault.Shelf f) = shelf-fault-number f
 fault-number (fault.Value f) = value-fault-number f
+fault-number (fault.ShortBuffer needed) = 14
 
 abbrev pub fault-layer : Fault → Layer
 fault-layer (fault.Ledger f) = layer.House
 fault-layer (fault.Shelf f) = layer.Shelf
 fault-layer (fault.Value f) = layer.Value
+fault-layer (fault.ShortBuffer needed) = layer.House
 
 abbrev pub layer-letter : Layer → List ℕ
 layer-letter layer.Value = codes "V"

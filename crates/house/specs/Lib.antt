@@ -1,3 +1,9 @@
 pub mod Faults
 pub mod Model
 pub mod Calls
+pub mod Committing
+pub mod Archiving
+pub mod Runs
+pub mod Log
+pub mod Law
+pub mod Examples

@@ -42,6 +42,8 @@ pub enum Fault {
     Ledger(LedgerFault),
     Shelf(ShelfFault),
     Value(ValueFault),
+    // 14: the archive is longer than the buffer; `needed` is its size
+    ShortBuffer { needed: u64 },
 }
 
 impl Fault {
@@ -52,6 +54,7 @@ impl Fault {
             Fault::Ledger(f) => f.number(),
             Fault::Shelf(f) => f.number(),
             Fault::Value(f) => f.number(),
+            Fault::ShortBuffer { .. } => 14,
         }
     }
 
@@ -62,6 +65,7 @@ impl Fault {
             Fault::Ledger(_) => Layer::House,
             Fault::Shelf(_) => Layer::Shelf,
             Fault::Value(_) => Layer::Value,
+            Fault::ShortBuffer { .. } => Layer::House,
         }
     }
 }

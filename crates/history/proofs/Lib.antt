@@ -1,0 +1,9 @@
+pub mod Positions
+pub mod Searches
+pub mod Orders
+pub mod Counts
+pub mod Rebuilding
+pub mod Prefixes
+pub mod Agreement
+pub mod Sizes
+pub mod ValueLaws

@@ -1,0 +1,4 @@
+pub mod Histories
+pub mod Layout
+pub mod Laws
+pub mod Examples

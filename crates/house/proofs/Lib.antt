@@ -1,0 +1,10 @@
+pub mod Entries
+pub mod Tying
+pub mod TyingReads
+pub mod TyingCalls
+pub mod SerialLeaves
+pub mod LogLeaves
+pub mod Explaining
+pub mod Collecting
+pub mod Shelving
+pub mod Lawfulness
