@@ -1,12 +1,12 @@
 -- A search that has passed the first i elements: what it finds next. Assumes nothing.
 use mathlib.Core.Path.{_≡_, refl, sym, ap, _∙_}
 use mathlib.Core.Bool.{Bool, true, false, cond}
-use mathlib.Core.List.{List, [], _∷_, _++_}
+use mathlib.Core.List.{List, [], _∷_, _++_, map}
 use Prim.Native.Nat.{ℕ, suc, _+_, _-_, _<_, _≤_}
 use native.Mathlib.Omega.{arith}
 use lib.ListN.{length, getD, take, drop}
 use Rattle.std.proofs.shelf.Lists.{at-drop-more, at-drop-all, length-take-le, take-more, take-all}
-use Rattle.bounded.specs.Searching.{any, position, highest}
+use Rattle.bounded.specs.Searching.{any, any-indexed, position, highest}
 
 module _ {X : Type 0} (p : X → Bool) (xs : List X) (i : ℕ) where
   pub any-here : (d : X) → i < length xs → p (getD xs i d) ≡ true → any p (drop i xs) ≡ true
@@ -28,6 +28,24 @@ module _ {X : Type 0} (p : X → Bool) (xs : List X) (i : ℕ) where
 
   pub position-none : length xs ≤ i → position p (drop i xs) ≡ 0
   position-none h = at-drop-all (position p) xs i h
+
+module _ {X : Type 0} (p : ℕ → X → Bool) (xs : List X) (i : ℕ) where
+  pub any-indexed-here : (d : X) → i < length xs → p i (getD xs i d) ≡ true → any-indexed p i (drop i xs) ≡ true
+  any-indexed-here d h e = at-drop-more (any-indexed p i) xs i d h ∙ ap (λ (b : Bool). cond b true (any-indexed p (suc i) (drop (i + 1) xs))) e
+
+  pub any-indexed-later : (d : X) → i < length xs → p i (getD xs i d) ≡ false → any-indexed p i (drop i xs) ≡ any-indexed p (i + 1) (drop (i + 1) xs)
+  any-indexed-later d h e =
+      at-drop-more (any-indexed p i) xs i d h
+      ∙ ap (λ (b : Bool). cond b true (any-indexed p (suc i) (drop (i + 1) xs))) e
+      ∙ ap (λ n. any-indexed p n (drop (i + 1) xs)) (omega arith)
+
+  pub any-indexed-none : length xs ≤ i → any-indexed p i (drop i xs) ≡ false
+  any-indexed-none h = at-drop-all (any-indexed p i) xs i h
+
+-- a search in changed elements is a search for those that pass when changed
+pub any-indexed-map : {X Y : Type 0} (f : X → Y) (p : ℕ → Y → Bool) (i : ℕ) (xs : List X) → any-indexed p i (map f xs) ≡ any-indexed (λ k x. p k (f x)) i xs
+any-indexed-map f p i [] = refl
+any-indexed-map f p i (x ∷ xs) = ap (cond (p i (f x)) true) (any-indexed-map f p (suc i) xs)
 
 -- one more element at the end is the highest if it passes
 highest-push : {X : Type 0} (p : X → Bool) (xs : List X) (x : X) → highest p (xs ++ x ∷ []) ≡ cond (p x) (suc (length xs)) (highest p xs)

@@ -15,7 +15,7 @@ use Rattle.protocol.proofs.JobLists.{Among, all-at}
 use Rattle.protocol.proofs.Theorems.{accepted-in-line, line-accepted, first-of-line}
 use Rattle.house.specs.Faults.{after-checks}
 use Rattle.house.specs.Model.{HouseModel}
-use Rattle.house.specs.Committing.{collected}
+use Rattle.ledger.specs.Answering.{collected}
 use Rattle.house.specs.Archiving.{Coding}
 use Rattle.house.specs.Runs.{told-as, collected-told, call-told, Event, Progress}
 use Rattle.house.specs.Log.{contains}

@@ -27,7 +27,7 @@ use Rattle.house.specs.declared.call.Told.{Told}
 use Rattle.house.specs.Faults.{after-checks}
 use Rattle.house.specs.Model.{HouseModel}
 use Rattle.house.specs.Calls.{shelved}
-use Rattle.house.specs.Committing.{collected}
+use Rattle.ledger.specs.Answering.{collected}
 use Rattle.house.specs.Archiving.{Coding, lacks-value, house-archive, archive-told}
 use Rattle.house.specs.Runs.{told-as, nothing-more, reading-told, collected-told, call-told, Event, Progress}
 use Rattle.house.proofs.Entries.{none-missing}

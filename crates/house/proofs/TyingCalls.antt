@@ -31,11 +31,12 @@ use Rattle.shelves.specs.Adding.{place-told}
 use Rattle.house.specs.declared.fault.Fault.{Fault}
 use Rattle.house.specs.declared.call.Call.{Call}
 use Rattle.house.specs.declared.call.Told.{Told}
-use Rattle.house.specs.declared.call.Collected.{Collected}
+use Rattle.ledger.specs.declared.job.Collected.{Collected}
 use Rattle.house.specs.Faults.{kept}
 use Rattle.house.specs.Model.{HouseModel}
 use Rattle.house.specs.Calls.{shelved, open-told, open-after, withdraw-told, withdraw-after, read-told, read-after, write-told, write-after}
-use Rattle.house.specs.Committing.{collected, office-in, hand-in-told, hand-in-after, deliver-told, deliver-after, collect-told, collect-after, close-told, close-after}
+use Rattle.ledger.specs.Answering.{collected}
+use Rattle.house.specs.Committing.{office-in, hand-in-told, hand-in-after, deliver-told, deliver-after, collect-told, collect-after, close-told, close-after}
 use Rattle.house.specs.Archiving.{Coding, archive-told}
 use Rattle.house.specs.Runs.{told-as, nothing-more, reading-told, collected-told, Event, Progress, beginning, proceeded, Run, begins, proceeds}
 use Rattle.house.specs.Log.{Occurrence, opened, read, wrote, answered, nothing, occurrence-of, occurrence, with-value}

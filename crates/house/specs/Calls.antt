@@ -1,5 +1,5 @@
 -- The calls of the house: for each, what it tells and how the house stands afterwards unless it was refused. `src/house.rt` cites it. Assumes nothing.
-use mathlib.Core.List.{List, [], _∷_, _++_, reverse}
+use mathlib.Core.List.{List, [], _∷_, _++_}
 use Prim.Native.Nat.{ℕ}
 use lib.ListN.{length}
 use Rattle.std.specs.declared.result.Result.{Result}
@@ -71,7 +71,3 @@ module _ {V : Type 0} where
   abbrev pub write-after : HouseModel V → ℕ → ℕ → V → HouseModel V
   write-after m j r v =
       record { offices = m .offices; ledger = write-done (m .ledger) j r (length (m .items)); items = m .items ++ v ∷ []; room = m .room }
-
-  -- a question: the model has the newest answer first
-  abbrev pub answered-jobs : HouseModel V → List ℕ
-  answered-jobs m = reverse (m .ledger .answered)

@@ -4,24 +4,11 @@ use Rattle.std.specs.declared.result.Result.{Result}
 use Rattle.std.specs.declared.result.Result.the-variants.{Ok}
 use Rattle.ledger.specs.Model.{row}
 use Rattle.ledger.specs.Delivering.{hand-in-fault, hand-in-done, deliver-fault, deliver-done}
-use Rattle.ledger.specs.Answering.{collect-fault, collect-done, close-fault, close-done}
-use Rattle.ledger.specs.declared.job.State.{State}
-use Rattle.ledger.specs.declared.job.State.the-variants as state
+use Rattle.ledger.specs.Answering.{collect-fault, collect-done, collected, close-fault, close-done}
+use Rattle.ledger.specs.declared.job.Collected.{Collected}
 use Rattle.house.specs.Faults.{after-checks}
 use Rattle.house.specs.Model.{HouseModel, with-ledger}
 use Rattle.house.specs.declared.fault.Fault.{Fault}
-use Rattle.house.specs.declared.call.Collected.{Collected}
-use Rattle.house.specs.declared.call.Collected.the-variants.{Answered, Dropped}
-
--- what becomes of a job in this state that may be collected: such a one is accepted or dropped
-abbrev pub collected : State → Collected
-collected state.NeverOpened = Answered
-collected state.Open = Answered
-collected state.Voting = Answered
-collected state.Accepted = Answered
-collected (state.Dropped mark) = Dropped mark
-collected state.Answered = Answered
-collected state.Ended = Answered
 
 module _ {V : Type 0} where
   -- record r belongs to the office whose number is the remainder of r by the number of offices

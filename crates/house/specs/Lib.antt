@@ -7,3 +7,5 @@ pub mod Runs
 pub mod Log
 pub mod Law
 pub mod Examples
+pub mod Slips
+pub mod Questions

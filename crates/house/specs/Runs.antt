@@ -17,8 +17,8 @@ use Rattle.house.specs.declared.call.Call.{Call}
 use Rattle.house.specs.declared.call.Call.the-variants.{Open, Read, Write, HandIn, Deliver, Collect, Close, Withdraw, Archive}
 use Rattle.house.specs.declared.call.Told.{Told}
 use Rattle.house.specs.declared.call.Told.the-variants as told
-use Rattle.house.specs.declared.call.Collected.{Collected}
-use Rattle.house.specs.declared.call.Collected.the-variants as collected
+use Rattle.ledger.specs.declared.job.Collected.{Collected}
+use Rattle.ledger.specs.declared.job.Collected.the-variants as collected
 
 -- what a call told, said as a value of `Told`
 abbrev pub told-as : {A V : Type 0} → (A → Told V) → Result A Fault → Result (Told V) Fault

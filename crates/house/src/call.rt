@@ -35,10 +35,3 @@ pub enum Told<V> {
     // an archive of so many bytes
     Archived { size: u64 },
 }
-
-// What becomes of a collected job.
-#[derive(Clone, Copy)]
-pub enum Collected {
-    Answered,
-    Dropped(Mark),
-}

@@ -2,13 +2,15 @@
 ghost use mathlib.Core.Path.{_≡_};
 ghost use mathlib.Core.Bool.{true};
 ghost use Rattle.std.specs.Results.{isErr};
-ghost use Rattle.house.specs.Calls.{answered-jobs, open-told, open-after, withdraw-told, withdraw-after, read-told, read-after, write-told, write-after, reading-from};
+ghost use Rattle.house.specs.Calls.{open-told, open-after, withdraw-told, withdraw-after, read-told, read-after, write-told, write-after, reading-from};
+ghost use Rattle.house.specs.Committing.{hand-in-told, hand-in-after, deliver-told, deliver-after, collect-told, collect-after, close-told, close-after};
 ghost use Rattle.house.specs.Faults.{kept};
 ghost use Rattle.house.specs.Model.{HouseModel, built, model};
 use crate::fault::Fault;
 use crate::fault::FaultFromLedger;
 use crate::fault::FaultFromShelf;
 use crate::reading::Reading;
+use ledger::job::Collected;
 use ledger::job::JobKind;
 use ledger::ledger::Ledger;
 use ledger::reading::Source;
@@ -17,8 +19,8 @@ use shelves::shelf::Shelf;
 // The jobs and records of one forwarder, over a shelf of values.
 #[derive(Drop)]
 pub struct House<S> {
-    ledger: Ledger,
-    shelf: S,
+    pub(crate) ledger: Ledger,
+    pub(crate) shelf: S,
 }
 
 impl<S: Shelf> House<S> {
@@ -50,13 +52,6 @@ impl<S: Shelf> House<S> {
     {
         self.ledger.withdraw(job)?;
         Ok(())
-    }
-
-    // The answered jobs in the order of their answers.
-    pub fn answered(&self) -> &[u8]
-        ensures { λ r. ⌜ now r ≡ answered-jobs (model items room (now (self .entry))) ⌝ }
-    {
-        self.ledger.answered()
     }
 
     fn fetch(&self, source: Source) -> Result<Reading<S::Value>, Fault>
@@ -96,6 +91,46 @@ impl<S: Shelf> House<S> {
         self.ledger.check_write(job, record)?;
         let place = self.shelf.add(value)?;
         self.ledger.list_write(job, record, place);
+        Ok(())
+    }
+
+    // Hands in an open amendment: the offices of its records are asked to prepare.
+    pub fn hand_in(&mut self, job: u64) -> Result<(), Fault>
+        ensures told { λ r. ⌜ r ≡ hand-in-told (model items room (now (self .entry))) job ⌝ }
+        ensures after { λ r. ⌜ model items room (now (self .exit)) ≡ kept r (model items room (now (self .entry))) (hand-in-after (model items room (now (self .entry))) job) ⌝ }
+        ensures shelf { λ _. ⌜ now (self .exit) .shelf ≡ now (self .entry) .shelf ⌝ }
+    {
+        self.ledger.hand_in(job)?;
+        Ok(())
+    }
+
+    // Delivers the message that waits between a job and an office.
+    pub fn deliver(&mut self, job: u64, office: u64) -> Result<(), Fault>
+        ensures told { λ r. ⌜ r ≡ deliver-told (model items room (now (self .entry))) job office ⌝ }
+        ensures after { λ r. ⌜ model items room (now (self .exit)) ≡ kept r (model items room (now (self .entry))) (deliver-after (model items room (now (self .entry))) job office) ⌝ }
+        ensures shelf { λ _. ⌜ now (self .exit) .shelf ≡ now (self .entry) .shelf ⌝ }
+    {
+        self.ledger.deliver(job, office)?;
+        Ok(())
+    }
+
+    // Tells the client what became of an amendment: an accepted one is answered unless it is held, a dropped one ends.
+    pub fn collect(&mut self, job: u64) -> Result<Collected, Fault>
+        ensures told { λ r. ⌜ r ≡ collect-told (model items room (now (self .entry))) job ⌝ }
+        ensures after { λ r. ⌜ model items room (now (self .exit)) ≡ kept r (model items room (now (self .entry))) (collect-after (model items room (now (self .entry))) job) ⌝ }
+        ensures shelf { λ _. ⌜ now (self .exit) .shelf ≡ now (self .entry) .shelf ⌝ }
+    {
+        let collected = self.ledger.collect(job)?;
+        Ok(collected)
+    }
+
+    // Answers an inspection; nothing holds it.
+    pub fn close(&mut self, job: u64) -> Result<(), Fault>
+        ensures told { λ r. ⌜ r ≡ close-told (model items room (now (self .entry))) job ⌝ }
+        ensures after { λ r. ⌜ model items room (now (self .exit)) ≡ kept r (model items room (now (self .entry))) (close-after (model items room (now (self .entry))) job) ⌝ }
+        ensures shelf { λ _. ⌜ now (self .exit) .shelf ≡ now (self .entry) .shelf ⌝ }
+    {
+        self.ledger.close(job)?;
         Ok(())
     }
 }

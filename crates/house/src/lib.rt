@@ -3,4 +3,6 @@ pub mod call;
 pub mod fault;
 pub mod house;
 pub mod law;
+pub mod questions;
 pub mod reading;
+pub mod slip;

@@ -2,3 +2,8 @@ pub mod Views
 pub mod Positions
 pub mod FirstReadings
 pub mod Refusals
+pub mod MapsInPlace
+pub mod Installations
+pub mod Conflicts
+pub mod Holds
+pub mod AnswerLists

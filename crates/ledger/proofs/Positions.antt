@@ -8,7 +8,7 @@ use lib.Dec.{eqb, leb}
 use lib.ListN.{length, getD, set}
 use Rattle.std.specs.declared.option.Option.the-variants.{Some, None}
 use Rattle.bounded.specs.Searching.{any, position}
-use Rattle.ledger.specs.Model.{first-unseen, has-written, written-place}
+use Rattle.ledger.specs.Model.{first-unseen, has-written, installed-version, written-place}
 use Rattle.ledger.specs.Writing.{with-place}
 use Rattle.ledger.specs.declared.job.Read.{Read}
 use Rattle.ledger.specs.declared.job.Write.{Write}
@@ -56,6 +56,21 @@ place-at (x ∷ xs) r d h = by-test (eqb (x .«record») r) refl (place-at xs r 
     by-test true e ih = refl
     by-test false e ih = ih (grind arith)
 
+installed-at : (xs : List Write) (r : ℕ) (d : Write) → position (write-of r) xs < length xs → getD xs (position (write-of r) xs) d .version ≡ installed-version xs r
+installed-at [] r d h = absurd (omega arith)
+installed-at (x ∷ xs) r d h = by-test (eqb (x .«record») r) refl (installed-at xs r d)
+  where
+    k : ℕ
+    k = position (write-of r) xs
+
+    by-test : (b : Bool) → eqb (x .«record») r ≡ b → (k < length xs → getD xs k d .version ≡ installed-version xs r) → getD (x ∷ xs) (cond b 0 (suc k)) d .version ≡ cond b (x .version) (installed-version xs r)
+    by-test true e ih = refl
+    by-test false e ih = ih (grind arith)
+
+installed-past : (xs : List Write) (r : ℕ) → length xs ≤ position (write-of r) xs → 0 ≡ installed-version xs r
+installed-past [] r h = refl
+installed-past (x ∷ xs) r h = let ih = installed-past xs r in grind arith
+
 replaced-at : (xs : List Write) (r p : ℕ) (d : Write) → position (write-of r) xs < length xs →
     set xs (position (write-of r) xs) (record { «record» = r; place = p; version = getD xs (position (write-of r) xs) d .version }) ≡ with-place xs r p
 replaced-at [] r p d h = absurd (omega arith)
@@ -98,6 +113,12 @@ module _ (xs : List Write) (r k : ℕ) where
 
   pub own-unlisted : k ≡ position (write-of r) xs → length xs ≤ k → None ≡ cond (has-written xs r) (Some (written-place xs r)) None
   own-unlisted e h = ap (λ (b : Bool). cond b (Some (written-place xs r)) None) (sym (written-past xs r (omega arith)))
+
+  pub installed-listed : (d : Write) → k ≡ position (write-of r) xs → k < length xs → getD xs k d .version ≡ installed-version xs r
+  installed-listed d e h = subst (λ n. getD xs n d .version ≡ installed-version xs r) (sym e) (installed-at xs r d (omega arith))
+
+  pub installed-unlisted : k ≡ position (write-of r) xs → length xs ≤ k → 0 ≡ installed-version xs r
+  installed-unlisted e h = installed-past xs r (omega arith)
 
   -- a second write replaces the first at its position
   pub place-replaced : (p : ℕ) (d : Write) → k ≡ position (write-of r) xs → k < length xs → set xs k (record { «record» = r; place = p; version = getD xs k d .version }) ≡ with-place xs r p

@@ -1,4 +1,4 @@
--- The rules of collect and close, and of who holds a job back. Assumes nothing.
+-- The rules of collect and close, and of who holds a job back; `src/answering.rt` and `src/order.rt` cite them. Assumes nothing.
 use mathlib.Core.Bool.{Bool, cond, not, _&&_, _||_}
 use mathlib.Core.List.{List, [], _∷_}
 use Prim.Native.Nat.{ℕ, _+_}
@@ -14,6 +14,8 @@ use Rattle.ledger.specs.Opening.{known-job}
 use Rattle.ledger.specs.Delivering.{waits}
 use Rattle.ledger.specs.declared.fault.LedgerFault.{LedgerFault}
 use Rattle.ledger.specs.declared.fault.LedgerFault.the-variants as fault
+use Rattle.ledger.specs.declared.job.Collected.{Collected}
+use Rattle.ledger.specs.declared.job.Collected.the-variants as collect
 use Rattle.ledger.specs.declared.job.State.{State}
 use Rattle.ledger.specs.declared.job.State.the-variants.{NeverOpened, Open, Voting, Accepted, Dropped, Answered, Ended}
 
@@ -61,6 +63,16 @@ answer-done l j = record { rows = set (l .rows) j (with-state (row l j) Answered
 -- an accepted job is answered, a dropped one ended
 abbrev pub collect-done : LedgerModel → ℕ → LedgerModel
 collect-done l j = cond (is-accepted (row l j .state)) (answer-done l j) (put-row l j (with-state (row l j) Ended))
+
+-- what collect tells of a job by its state; in a state other than accepted and dropped it is refused, so that nothing is told
+abbrev pub collected : State → Collected
+collected NeverOpened = collect.Answered
+collected Open = collect.Answered
+collected Voting = collect.Answered
+collected Accepted = collect.Answered
+collected (Dropped m) = collect.Dropped m
+collected Answered = collect.Answered
+collected Ended = collect.Answered
 
 -- close answers an inspection; nothing holds it
 abbrev pub close-fault : LedgerModel → ℕ → Option LedgerFault

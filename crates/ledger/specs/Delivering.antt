@@ -154,11 +154,12 @@ module _ (office : ℕ → ℕ) where
   row-installed l x o =
       record { kind = x .kind; state = x .state; reads = x .reads; writes = map (installed l o) (x .writes); exchanges = set (x .exchanges) o idle }
 
+  -- what job j with these writes makes of the versions of record r
+  abbrev pub record-installed : List Write → ℕ → ℕ → ℕ → List Version → List Version
+  record-installed ws j o r vs = cond (eqb (office r) o && has-written ws r) (with-version vs (record { job = j; place = written-place ws r })) vs
+
   abbrev pub records-installed : LedgerModel → ℕ → ℕ → List (List Version)
-  records-installed l j o =
-      map-indexed
-      (λ r vs. cond (eqb (office r) o && has-written (row l j .writes) r) (with-version vs (record { job = j; place = written-place (row l j .writes) r })) vs)
-      0 (l .records)
+  records-installed l j o = map-indexed (record-installed (row l j .writes) j o) 0 (l .records)
 
   abbrev pub install-done : LedgerModel → ℕ → ℕ → LedgerModel
   install-done l j o =

@@ -6,7 +6,7 @@ use Rattle.std.specs.declared.option.Option.the-variants.{Some, None}
 use Rattle.std.specs.declared.result.Result.{Result}
 use Rattle.std.specs.declared.result.Result.the-variants.{Ok, Err}
 use Rattle.ledger.specs.declared.fault.LedgerFault.{LedgerFault}
-use Rattle.ledger.specs.declared.fault.LedgerFault.the-variants.{JobNumber, JobTaken, RecordNumber, OfficeNumber, NeverOpened, WrongKind, WrongState, TooManyReads, TooManyWrites, NoMessage, Undecided, Held}
+use Rattle.ledger.specs.declared.fault.LedgerFault.the-variants.{JobNumber, JobTaken, RecordNumber, OfficeNumber, NeverOpened, WrongKind, WrongState, TooManyReads, TooManyWrites, NoMessage, Undecided, Held, NoSuchAnswer}
 
 abbrev pub ledger-fault-number : LedgerFault → ℕ
 ledger-fault-number JobNumber = 1
@@ -21,6 +21,7 @@ ledger-fault-number TooManyWrites = 9
 ledger-fault-number NoMessage = 10
 ledger-fault-number Undecided = 11
 ledger-fault-number Held = 12
+ledger-fault-number NoSuchAnswer = 22
 
 module _ {Fault : Type 0} where
   -- one check: the fault where the test is true, and else what the later checks find

@@ -1,10 +1,12 @@
 pub mod Limits
 pub mod Faults
+pub mod Marks
 pub mod Model
 pub mod Opening
 pub mod Reading
 pub mod Writing
 pub mod Delivering
 pub mod Answering
+pub mod Questions
 pub mod Lookups
 pub mod View

@@ -28,6 +28,8 @@ pub enum LedgerFault {
     Undecided,
     // 12: another job holds it back
     Held,
+    // 22: not so many jobs are answered
+    NoSuchAnswer,
 }
 
 impl LedgerFault {
@@ -47,6 +49,7 @@ impl LedgerFault {
             LedgerFault::NoMessage => 10,
             LedgerFault::Undecided => 11,
             LedgerFault::Held => 12,
+            LedgerFault::NoSuchAnswer => 22,
         }
     }
 }

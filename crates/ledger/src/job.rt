@@ -1,4 +1,6 @@
 // Jobs and their rows.
+ghost use mathlib.Core.Path.{_≡_};
+ghost use Rattle.ledger.specs.Marks.{mark-number};
 use crate::limits::MOST_LISTED;
 use crate::limits::MOST_OFFICES;
 use crate::message::Exchange;
@@ -22,6 +24,19 @@ pub enum Mark {
     Full,
 }
 
+impl Mark {
+    // The number by which a mark is told.
+    pub fn number(&self) -> u8
+        ensures { λ r. ⌜ r ≡ mark-number (now (self .entry)) ⌝ }
+    {
+        match self {
+            Mark::Conflict => 1,
+            Mark::Stale => 2,
+            Mark::Full => 3,
+        }
+    }
+}
+
 // Where a job stands. The first state is that of a job number that no call has taken yet.
 #[derive(Clone, Copy)]
 pub enum State {
@@ -37,6 +52,13 @@ pub enum State {
     Answered,
     // withdrawn, or dropped and collected
     Ended,
+}
+
+// What collect tells of a job: its commit is answered, or an office refused it.
+#[derive(Clone, Copy)]
+pub enum Collected {
+    Answered,
+    Dropped(Mark),
 }
 
 // A listed read: the version of a record that the job was told; version 0 is blank.

@@ -7,7 +7,7 @@ ghost use lib.ListN.{length};
 ghost use Rattle.std.specs.declared.option.Option.the-variants.{Some, None};
 ghost use Rattle.bounded.specs.Searching.{position as place-of};
 ghost use Rattle.ledger.specs.Lookups.{unseen-after};
-ghost use Rattle.ledger.specs.Model.{first-unseen, has-written, written-place};
+ghost use Rattle.ledger.specs.Model.{first-unseen, has-written, installed-version, written-place};
 use crate::job::Read;
 use crate::job::Write;
 use bounded::search::Predicate;
@@ -71,5 +71,17 @@ pub(crate) fn own_place(writes: &[Write], record: u8) -> Option<u64>
         Some(writes[index].place)
     } else {
         None
+    }
+}
+
+// The version that the listed write of a record became; 0 where the record is not listed, or not yet installed.
+pub(crate) fn installed_version(writes: &[Write], record: u8) -> u8
+    ensures { λ r. ⌜ r ≡ installed-version (now (writes .entry)) «record» ⌝ }
+{
+    let index = write_index(writes, record);
+    if index < writes.len() {
+        writes[index].version
+    } else {
+        0
     }
 }

@@ -1,4 +1,6 @@
 // What passes between a job and an office: two-phase commit.
+ghost use mathlib.Core.Path.{_≡_};
+ghost use Rattle.ledger.specs.Model.{idle as idle-exchange};
 use crate::job::Mark;
 
 // An office's answer to a prepare.
@@ -29,4 +31,16 @@ pub enum Message {
 pub struct Exchange {
     pub waiting: Option<Message>,
     pub vote: Option<Vote>,
+}
+
+impl Exchange {
+    // Nothing waits, and no vote stands.
+    pub(crate) fn idle() -> Exchange
+        ensures { λ r. ⌜ r ≡ idle-exchange ⌝ }
+    {
+        Exchange {
+            waiting: None,
+            vote: None,
+        }
+    }
 }

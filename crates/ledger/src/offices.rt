@@ -1,6 +1,6 @@
 // How many offices a house has.
 ghost use mathlib.Core.Path.{_≡_};
-ghost use Prim.Native.Nat.{_<_, _≤_};
+ghost use Prim.Native.Nat.{_<_, _≤_, _%_};
 ghost use Rattle.ledger.specs.Limits.{offices-built};
 
 const MOST: u64 = 8;
@@ -26,5 +26,20 @@ impl Offices {
         } else {
             Offices { count: count as u8 }
         }
+    }
+
+    // How many offices there are.
+    pub fn count(&self) -> u8
+        ensures value { λ r. ⌜ r ≡ now (self .entry) .count ⌝ }
+        ensures bound { λ r. ⌜ r ≤ 8 ⌝ }
+    {
+        self.count
+    }
+
+    // The office that owns a record.
+    pub fn office_of(&self, record: u8) -> u8
+        ensures { λ r. ⌜ r ≡ «record» % now (self .entry) .count ⌝ }
+    {
+        record % self.count
     }
 }

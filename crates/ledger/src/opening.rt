@@ -24,8 +24,8 @@ fn start(row: &mut Row, kind: JobKind)
     row.state = State::Open;
 }
 
-// A row's step at withdraw.
-fn end(row: &mut Row)
+// A row's step at withdraw, and at the collect of a dropped job.
+pub(crate) fn end(row: &mut Row)
     ensures { λ _. ⌜ row-view (now (row .exit)) ≡ with-state (row-view (now (row .entry))) Ended ⌝ }
 {
     row.state = State::Ended;

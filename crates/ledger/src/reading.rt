@@ -10,7 +10,7 @@ ghost use Rattle.std.specs.declared.option.Option.the-variants.{Some, None};
 ghost use Rattle.ledger.specs.Faults.{told, refuse-if};
 ghost use Rattle.ledger.specs.Limits.{most-listed};
 ghost use Rattle.ledger.specs.Model.{row as row-of, no-row, is-answered, is-never-opened, is-open};
-ghost use Rattle.ledger.specs.Reading.{newest as newest-of, is-new-read as is-new, read-fault, read-source, version-source, with-read, read-done, open-checked};
+ghost use Rattle.ledger.specs.Reading.{newest as newest-of, newest-answered, is-new-read as is-new, read-fault, read-source, version-source, with-read, read-done, open-checked};
 ghost use Rattle.ledger.specs.View.{view, row-view, office-count};
 ghost use Rattle.ledger.specs.declared.fault.LedgerFault.the-variants as fault;
 use crate::fault::LedgerFault;
@@ -90,18 +90,23 @@ fn list_version(row: &mut Row, record: u8, version: u8)
 }
 
 impl Ledger {
+    // The highest version of a record whose job is answered, or 0.
+    fn newest_answered(&self, record: u8) -> u8
+        requires { ⌜ «record» < 64 ⌝ }
+        ensures { λ r. ⌜ r ≡ newest-answered (view (now (self .entry))) «record» ⌝ }
+    {
+        let versions = self.records[record as usize].as_slice();
+        highest(versions, &IsAnswered { rows: &self.rows }) as u8
+    }
+
     // The version that a first reading is told: an inspection sees answered jobs only.
     fn newest(&self, row: &Row, record: u8) -> u8
         requires { ⌜ «record» < 64 ⌝ }
         ensures { λ r. ⌜ r ≡ newest-of (view (now (self .entry))) (row-view (now (row .entry))) «record» ⌝ }
     {
-        let versions = &self.records[record as usize];
         match row.kind {
-            JobKind::Amendment => versions.len() as u8,
-            JobKind::Inspection => highest(
-                versions.as_slice(),
-                &IsAnswered { rows: &self.rows },
-            ) as u8,
+            JobKind::Amendment => self.version_count(record),
+            JobKind::Inspection => self.newest_answered(record),
         }
     }
 

@@ -1,5 +1,5 @@
 -- The command that a line writes, or its fault: what src/command.rt, src/letter.rt and src/parse.rt give. Assumes nothing.
-use mathlib.Core.Bool.{Bool, true, false, cond}
+use mathlib.Core.Bool.{cond}
 use mathlib.Core.List.{List, [], _∷_}
 use Prim.Native.Nat.{ℕ}
 use Prim.Native.String.{String}
@@ -46,22 +46,6 @@ letter-of c =
     (cond (eqb c (character "e")) (Some letter.Close)
     (cond (eqb c (character "u")) (Some letter.Withdraw) None))))))))
 
--- the letters whose commands this version carries out
-abbrev pub served : Letter → Bool
-served letter.Amendment = true
-served letter.Inspection = true
-served letter.Read = true
-served letter.Write = true
-served letter.HandIn = false
-served letter.Deliver = false
-served letter.Collect = false
-served letter.Close = false
-served letter.Withdraw = true
-
--- the letter that a character is, if it is served
-abbrev pub served-letter : ℕ → Option Letter
-served-letter c = then (letter-of c) (λ l. cond (served l) (Some l) None)
-
 -- job, record, currency and units
 abbrev pub write-of : List ℕ → Option Command
 write-of s = then (field s) (λ j. then (field (j .1)) (λ r. then (amount-fields (r .1)) (λ a. Some (command.Write (j .0) (r .0) (a .0) (a .1)))))
@@ -86,7 +70,7 @@ lettered (Some l) s = okOr (command-of l s) WrongFields
 -- the command of a line that is short enough
 abbrev pub begun : List ℕ → Result Command LineFault
 begun [] = Err UnknownLetter
-begun (c ∷ s) = lettered (served-letter c) s
+begun (c ∷ s) = lettered (letter-of c) s
 
 -- the command of a line without its newline
 abbrev pub parsed : List ℕ → Result Command LineFault

@@ -9,7 +9,7 @@ use crate::command::Letter;
 use crate::command::LineFault;
 use crate::fields::field_at;
 use crate::fields::signed_field_at;
-use crate::letter::served_letter;
+use crate::letter::letter;
 
 // A line without its newline has at most so many bytes.
 const LONGEST_LINE: usize = 80;
@@ -113,6 +113,6 @@ pub fn parse(line: &[u8]) -> Result<Command, LineFault>
         return Err(LineFault::TooLong);
     }
     let (first, fields) = line.split_first().ok_or(LineFault::UnknownLetter)?;
-    let letter = served_letter(*first as char).ok_or(LineFault::UnknownLetter)?;
-    command_of(letter, fields).ok_or(LineFault::WrongFields)
+    let chosen = letter(*first as char).ok_or(LineFault::UnknownLetter)?;
+    command_of(chosen, fields).ok_or(LineFault::WrongFields)
 }

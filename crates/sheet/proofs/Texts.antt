@@ -8,7 +8,7 @@ use Rattle.std.proofs.shelf.Lists.{drop-more, drop-all}
 use Rattle.std.specs.Written.{decimal}
 use Rattle.std.specs.declared.result.Result.{Result}
 use Rattle.values.specs.declared.amount.Amount.{Amount}
-use Rattle.house.specs.Calls.{answered-jobs}
+use Rattle.house.specs.Questions.{answered-jobs}
 use Rattle.house.specs.Model.{HouseModel}
 use Rattle.sheet.specs.Carrying.{line-told, line-after}
 use Rattle.sheet.specs.Day.{line-text, jobs-text, end-text, lines-text}

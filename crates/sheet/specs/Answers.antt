@@ -5,6 +5,9 @@ use lib.Chars.{codes}
 use Rattle.std.specs.Written.{decimal, signed}
 use Rattle.values.specs.Currencies.{currency-number}
 use Rattle.values.specs.declared.amount.Amount.{Amount}
+use Rattle.ledger.specs.Marks.{mark-number}
+use Rattle.ledger.specs.declared.job.Collected.{Collected}
+use Rattle.ledger.specs.declared.job.Collected.the-variants.{Answered, Dropped}
 use Rattle.house.specs.declared.reading.Reading.{Reading}
 use Rattle.house.specs.declared.reading.Reading.the-variants.{Blank, Own, Version}
 use Rattle.sheet.specs.declared.answer.Answer.{Answer}
@@ -20,6 +23,12 @@ reading-text Blank = codes " 0"
 reading-text (Own a) = codes " own " ++ amount-text a
 reading-text (Version n a) = codes " " ++ (decimal n ++ (codes " " ++ amount-text a))
 
+-- `answered`, or `dropped` and the mark
+abbrev pub collected-text : Collected → List ℕ
+collected-text Answered = codes " answered"
+collected-text (Dropped mark) = codes " dropped " ++ decimal (mark-number mark)
+
 abbrev pub answer-text : Answer → List ℕ
 answer-text answer.Done = []
 answer-text (answer.Read r) = reading-text r
+answer-text (answer.Collected c) = collected-text c

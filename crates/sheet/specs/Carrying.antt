@@ -7,13 +7,14 @@ use Rattle.std.specs.declared.result.Result.the-variants.{Ok, Err}
 use Rattle.values.specs.Amounts.{amount-from-numbers}
 use Rattle.values.specs.declared.amount.Amount.{Amount}
 use Rattle.values.specs.declared.fault.ValueFault.{ValueFault}
+use Rattle.ledger.specs.declared.job.Collected.{Collected}
 use Rattle.ledger.specs.declared.job.JobKind.the-variants.{Amendment, Inspection}
 use Rattle.lines.specs.Commands.{parsed}
 use Rattle.lines.specs.declared.command.Command.{Command}
 use Rattle.lines.specs.declared.command.Command.the-variants as command
 use Rattle.lines.specs.declared.command.LineFault.{LineFault}
-use Rattle.lines.specs.declared.command.LineFault.the-variants.{UnknownLetter}
 use Rattle.house.specs.Calls.{open-told, open-after, withdraw-told, withdraw-after, read-told, read-after, write-told, write-after}
+use Rattle.house.specs.Committing.{hand-in-told, hand-in-after, deliver-told, deliver-after, collect-told, collect-after, close-told, close-after}
 use Rattle.house.specs.Faults.{kept}
 use Rattle.house.specs.Model.{HouseModel}
 use Rattle.house.specs.declared.fault.Fault.{Fault}
@@ -49,16 +50,19 @@ abbrev pub seen : Result (Reading Amount) Fault → Result Answer Cause
 seen (Ok r) = Ok (answer.Read r)
 seen (Err f) = Err (cause.House f)
 
--- the commands whose calls the house does not have yet count as unknown letters
+abbrev pub ended : Result Collected Fault → Result Answer Cause
+ended (Ok c) = Ok (answer.Collected c)
+ended (Err f) = Err (cause.House f)
+
 abbrev pub command-told : HouseModel Amount → Command → Result Answer Cause
 command-told m (command.OpenAmendment j) = done (open-told m j)
 command-told m (command.OpenInspection j) = done (open-told m j)
 command-told m (command.Read j r) = seen (read-told m j r)
 command-told m (command.Write j r c u) = done (write-amount-told m j r c u)
-command-told m (command.HandIn j) = Err (cause.Line UnknownLetter)
-command-told m (command.Deliver j o) = Err (cause.Line UnknownLetter)
-command-told m (command.Collect j) = Err (cause.Line UnknownLetter)
-command-told m (command.Close j) = Err (cause.Line UnknownLetter)
+command-told m (command.HandIn j) = done (hand-in-told m j)
+command-told m (command.Deliver j o) = done (deliver-told m j o)
+command-told m (command.Collect j) = ended (collect-told m j)
+command-told m (command.Close j) = done (close-told m j)
 command-told m (command.Withdraw j) = done (withdraw-told m j)
 
 abbrev pub command-after : HouseModel Amount → Command → HouseModel Amount
@@ -66,10 +70,10 @@ command-after m (command.OpenAmendment j) = kept (open-told m j) m (open-after m
 command-after m (command.OpenInspection j) = kept (open-told m j) m (open-after m j Inspection)
 command-after m (command.Read j r) = kept (read-told m j r) m (read-after m j r)
 command-after m (command.Write j r c u) = write-amount-after m j r c u
-command-after m (command.HandIn j) = m
-command-after m (command.Deliver j o) = m
-command-after m (command.Collect j) = m
-command-after m (command.Close j) = m
+command-after m (command.HandIn j) = kept (hand-in-told m j) m (hand-in-after m j)
+command-after m (command.Deliver j o) = kept (deliver-told m j o) m (deliver-after m j o)
+command-after m (command.Collect j) = kept (collect-told m j) m (collect-after m j)
+command-after m (command.Close j) = kept (close-told m j) m (close-after m j)
 command-after m (command.Withdraw j) = kept (withdraw-told m j) m (withdraw-after m j)
 
 abbrev pub told-of : Result Command LineFault → HouseModel Amount → Result Answer Cause

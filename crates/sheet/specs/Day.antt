@@ -8,7 +8,7 @@ use Rattle.std.specs.declared.result.Result.{Result}
 use Rattle.std.specs.declared.result.Result.the-variants.{Ok, Err}
 use Rattle.values.specs.declared.amount.Amount.{Amount}
 use Rattle.lines.specs.Cutting.{lines-of, most-input}
-use Rattle.house.specs.Calls.{answered-jobs}
+use Rattle.house.specs.Questions.{answered-jobs}
 use Rattle.house.specs.Model.{HouseModel, built}
 use Rattle.sheet.specs.Answers.{answer-text}
 use Rattle.sheet.specs.Carrying.{line-told, line-after}

@@ -2,6 +2,7 @@
 ghost use Rattle.std.specs.declared.option.Option.the-variants.{Some};
 ghost use Rattle.sheet.specs.Answers.{answer-text};
 use house::reading::Reading;
+use ledger::job::Collected;
 use std::fmt;
 use values::amount::Amount;
 
@@ -10,6 +11,7 @@ pub enum Answer {
     // the command is done, and there is no more to tell
     Done,
     Read(Reading<Amount>),
+    Collected(Collected),
 }
 
 pub impl fmt::Display for Answer as AnswerDisplay {
@@ -18,6 +20,11 @@ pub impl fmt::Display for Answer as AnswerDisplay {
     fn fmt<W: fmt::Write>(&self, f: &mut fmt::Formatter<W>) -> fmt::Result {
         let reading = match *self {
             Answer::Done => return write!(f, ""),
+            Answer::Collected(Collected::Answered) => return write!(f, " answered"),
+            Answer::Collected(Collected::Dropped(mark)) => {
+                let number = mark.number();
+                return write!(f, " dropped {number}");
+            }
             Answer::Read(reading) => reading,
         };
         match reading {

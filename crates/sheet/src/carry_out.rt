@@ -12,7 +12,6 @@ use house::fault::FaultFromValue;
 use house::house::House;
 use ledger::job::JobKind;
 use lines::command::Command;
-use lines::command::LineFault;
 use lines::parse::parse;
 use shelves::shelf::Shelf;
 use values::amount::Amount;
@@ -50,7 +49,10 @@ pub(crate) fn carry_out<S: Shelf<Value = Amount>>(
             units,
         } => write_amount(house, job, record, currency, units)?,
         Command::Withdraw { job } => house.withdraw(job)?,
-        _ => return Err(Cause::Line(LineFault::UnknownLetter)),
+        Command::HandIn { job } => house.hand_in(job)?,
+        Command::Deliver { job, office } => house.deliver(job, office)?,
+        Command::Collect { job } => return Ok(Answer::Collected(house.collect(job)?)),
+        Command::Close { job } => house.close(job)?,
     }
     Ok(Answer::Done)
 }
