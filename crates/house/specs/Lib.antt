@@ -5,7 +5,5 @@ pub mod Committing
 pub mod Archiving
 pub mod Runs
 pub mod Log
-pub mod Law
-pub mod Examples
 pub mod Slips
 pub mod Questions

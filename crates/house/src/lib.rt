@@ -2,7 +2,6 @@
 pub mod call;
 pub mod fault;
 pub mod house;
-pub mod law;
 pub mod questions;
 pub mod reading;
 pub mod slip;

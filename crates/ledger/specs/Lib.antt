@@ -10,3 +10,4 @@ pub mod Answering
 pub mod Questions
 pub mod Lookups
 pub mod View
+pub mod States

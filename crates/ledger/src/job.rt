@@ -1,6 +1,7 @@
 // Jobs and their rows.
 ghost use mathlib.Core.Path.{_≡_};
 ghost use Rattle.ledger.specs.Marks.{mark-number};
+ghost use Rattle.ledger.specs.States.{state-number};
 use crate::limits::MOST_LISTED;
 use crate::limits::MOST_OFFICES;
 use crate::message::Exchange;
@@ -52,6 +53,23 @@ pub enum State {
     Answered,
     // withdrawn, or dropped and collected
     Ended,
+}
+
+impl State {
+    // The number by which a state is told.
+    pub fn number(&self) -> u8
+        ensures { λ r. ⌜ r ≡ state-number (now (self .entry)) ⌝ }
+    {
+        match self {
+            State::NeverOpened => 0,
+            State::Open => 1,
+            State::Voting => 2,
+            State::Accepted => 3,
+            State::Dropped(_) => 4,
+            State::Answered => 5,
+            State::Ended => 6,
+        }
+    }
 }
 
 // What collect tells of a job: its commit is answered, or an office refused it.

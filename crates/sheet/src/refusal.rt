@@ -16,7 +16,7 @@ pub enum Cause {
 }
 
 impl Cause {
-    pub fn number(&self) -> u8
+    pub(crate) fn number(&self) -> u8
         ensures { λ r. ⌜ r ≡ cause-number (now (self .entry)) ⌝ }
     {
         match self {
@@ -25,7 +25,7 @@ impl Cause {
         }
     }
 
-    pub fn layer(&self) -> Layer
+    pub(crate) fn layer(&self) -> Layer
         ensures { λ r. ⌜ r ≡ cause-layer (now (self .entry)) ⌝ }
     {
         match self {

@@ -1,6 +1,0 @@
-use Rattle.history.proofs.ValueLaws.{lawful}
-use Rattle.house.proofs.Lawfulness.{the-law}
-use Rattle.house.proofs.law.law_stands.Needs as need
-
-pub returns : need.returns
-returns g c = the-law _ (lawful (g .V·Value .bytes) (g .V·Value .parsed) (g .V·Value .width) (g .V·Value·met .«bytes_width») (g .V·Value·met .«parsed_bytes»))
