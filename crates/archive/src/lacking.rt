@@ -43,7 +43,7 @@ impl Predicate<Row> for Lacks {
 
 // Whether the shelf lacks a value of an answered job.
 pub fn lacks_value<S: Shelf>(ledger: &Ledger, shelf: &S) -> bool
-    ensures { result ≡ lacks_value (length (items shelf.now)) (view ledger.now).rows }
+    ensures { result ≡ lacks_value (length (S.items shelf.now)) (view ledger.now).rows }
 {
     let count = shelf.len();
     any(&ledger.rows[..], &Lacks { count })

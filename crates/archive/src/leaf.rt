@@ -64,7 +64,7 @@ pub struct WriteEntry<'a, S> {
 }
 
 impl<'a, S: Shelf> ElementWriter<Write> for WriteEntry<'a, S> {
-    ghost piece = { λ t w. flat_map (write_bytes Value-as-Value.bytes) (leaf_writes (items t.shelf.now) (w ∷ [])) };
+    ghost piece = { λ t w. flat_map (write_bytes S.Value.Value.bytes) (leaf_writes (S.items t.shelf.now) (w ∷ [])) };
 
     fn write(&self, write: &Write, cursor: &mut Cursor<'_>) {
         if let Ok(value) = self.shelf.fetch(write.place) {
@@ -77,8 +77,8 @@ impl<'a, S: Shelf> ElementWriter<Write> for WriteEntry<'a, S> {
 
 // Writes the leaf of a job, whose row this is.
 pub(crate) fn put_leaf<S: Shelf>(job: u16, row: &Row, shelf: &S, cursor: &mut Cursor<'_>)
-    requires { lacks_write (length (items shelf.now)) (row_view row.now).writes ≡ false }
-    ensures puts { cursor_output cursor.new ≡ put_bytes (leaf_bytes Value-as-Value.bytes (row_leaf (items shelf.now) job (row_view row.now))) (cursor_output cursor.old) }
+    requires { lacks_write (length (S.items shelf.now)) (row_view row.now).writes ≡ false }
+    ensures puts { cursor_output cursor.new ≡ put_bytes (leaf_bytes S.Value.Value.bytes (row_leaf (S.items shelf.now) job (row_view row.now))) (cursor_output cursor.old) }
     ensures same { cursor.new.buffer.ghost_name ≡ cursor.old.buffer.ghost_name }
 {
     let size = leaf_size(row, S::Value::byte_width());

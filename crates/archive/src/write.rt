@@ -28,9 +28,9 @@ fn put_head<V: Value>(leaves: u16, cursor: &mut Cursor<'_>)
 
 // The leaves of the answered jobs, whose rows these are.
 fn put_leaves<S: Shelf>(rows: &[Row], shelf: &S, cursor: &mut Cursor<'_>)
-    requires complete { lacks_value (length (items shelf.now)) (map row_view rows.now) ≡ false }
+    requires complete { lacks_value (length (S.items shelf.now)) (map row_view rows.now) ≡ false }
     requires few { length rows.now ≤ 256 }
-    ensures puts { cursor_output cursor.new ≡ put_bytes (flat_map (leaf_bytes Value-as-Value.bytes) (row_leaves (items shelf.now) 0 (map row_view rows.now))) (cursor_output cursor.old) }
+    ensures puts { cursor_output cursor.new ≡ put_bytes (flat_map (leaf_bytes S.Value.Value.bytes) (row_leaves (S.items shelf.now) 0 (map row_view rows.now))) (cursor_output cursor.old) }
     ensures same { cursor.new.buffer.ghost_name ≡ cursor.old.buffer.ghost_name }
 {
     for (job, row) in rows.iter().enumerate() {
@@ -42,9 +42,9 @@ fn put_leaves<S: Shelf>(rows: &[Row], shelf: &S, cursor: &mut Cursor<'_>)
 
 // The head and the leaves.
 fn put_archive<S: Shelf>(rows: &[Row], shelf: &S, cursor: &mut Cursor<'_>)
-    requires complete { lacks_value (length (items shelf.now)) (map row_view rows.now) ≡ false }
+    requires complete { lacks_value (length (S.items shelf.now)) (map row_view rows.now) ≡ false }
     requires few { length rows.now ≤ 256 }
-    ensures puts { cursor_output cursor.new ≡ put_bytes (archive-bytes Value-as-Value.bytes Value-as-Value.kind Value-as-Value.width (row_leaves (items shelf.now) 0 (map row_view rows.now))) (cursor_output cursor.old) }
+    ensures puts { cursor_output cursor.new ≡ put_bytes (archive-bytes S.Value.Value.bytes S.Value.Value.kind S.Value.Value.width (row_leaves (S.items shelf.now) 0 (map row_view rows.now))) (cursor_output cursor.old) }
     ensures same { cursor.new.buffer.ghost_name ≡ cursor.old.buffer.ghost_name }
 {
     put_head::<S::Value>(leaf_count(rows) as u16, cursor);
@@ -53,8 +53,8 @@ fn put_archive<S: Shelf>(rows: &[Row], shelf: &S, cursor: &mut Cursor<'_>)
 
 // The archive from the start of the buffer on, as far as there is room.
 fn fill<S: Shelf>(ledger: &Ledger, shelf: &S, buffer: &mut [u8])
-    requires { lacks_value (length (items shelf.now)) (view ledger.now).rows ≡ false }
-    ensures { buffer.new ≡ (put_bytes (archive-bytes Value-as-Value.bytes Value-as-Value.kind Value-as-Value.width (row_leaves (items shelf.now) 0 (view ledger.now).rows)) (output 0 buffer.old)).bytes }
+    requires { lacks_value (length (S.items shelf.now)) (view ledger.now).rows ≡ false }
+    ensures { buffer.new ≡ (put_bytes (archive-bytes S.Value.Value.bytes S.Value.Value.kind S.Value.Value.width (row_leaves (S.items shelf.now) 0 (view ledger.now).rows)) (output 0 buffer.old)).bytes }
 {
     let mut cursor = Cursor {
         buffer,
@@ -65,9 +65,9 @@ fn fill<S: Shelf>(ledger: &Ledger, shelf: &S, buffer: &mut [u8])
 
 // Writes the archive to the front of a buffer that has room for it; the bytes behind it stay.
 pub fn write_archive<S: Shelf>(ledger: &Ledger, shelf: &S, buffer: &mut [u8])
-    requires complete { lacks_value (length (items shelf.now)) (view ledger.now).rows ≡ false }
-    requires room { length (archive-bytes Value-as-Value.bytes Value-as-Value.kind Value-as-Value.width (row_leaves (items shelf.now) 0 (view ledger.now).rows)) ≤ length buffer.old }
-    ensures { buffer.new ≡ in_front (archive-bytes Value-as-Value.bytes Value-as-Value.kind Value-as-Value.width (row_leaves (items shelf.now) 0 (view ledger.now).rows)) buffer.old }
+    requires complete { lacks_value (length (S.items shelf.now)) (view ledger.now).rows ≡ false }
+    requires room { length (archive-bytes S.Value.Value.bytes S.Value.Value.kind S.Value.Value.width (row_leaves (S.items shelf.now) 0 (view ledger.now).rows)) ≤ length buffer.old }
+    ensures { buffer.new ≡ in_front (archive-bytes S.Value.Value.bytes S.Value.Value.kind S.Value.Value.width (row_leaves (S.items shelf.now) 0 (view ledger.now).rows)) buffer.old }
 {
     fill(ledger, shelf, buffer);
 }

@@ -1,5 +1,5 @@
 -- What the searches over a list answer; `src/search.rt` cites it. Assumes nothing.
-use Rattle.std.specs.Prelude.{ℕ, suc, Bool, true, false, cond, List, [], ◌∷◌, Some, None, Option, ◌==◌}
+use Rattle.std.specs.Prelude.{ℕ, suc, Bool, true, false, cond, List, [], ◌∷◌, ◌==◌}
 
 module _ {X : Type 0} where
   -- whether some element passes

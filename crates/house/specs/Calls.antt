@@ -2,7 +2,7 @@
 use Rattle.std.specs.Prelude.{ℕ, List, [], ◌∷◌, ◌++◌, length, Ok, Err, Result}
 use Rattle.shelves.specs.Adding.{place_told, fetched}
 use Rattle.shelves.specs.declared.fault.ShelfFault.{ShelfFault}
-use Rattle.ledger.specs.Model.{LedgerModel, row}
+use Rattle.ledger.specs.Model.{row}
 use Rattle.ledger.specs.Opening.{open_fault, open_done, withdraw_fault, withdraw_done}
 use Rattle.ledger.specs.Reading.{read_fault, read_source, read_done}
 use Rattle.ledger.specs.Writing.{write_fault, write_done}

@@ -1,6 +1,5 @@
 -- The line of a run has the accepted jobs, and the first of it can be collected.
 use Rattle.std.proofs.Common.{◌≡◌, ℕ, Bool, true, false, List, [], ◌∷◌, Ok, sym, refl, ap, ◌∙◌, arith}
-use Rattle.ledger.specs.Faults.{told}
 use Rattle.ledger.specs.Model.{LedgerModel, row, is_accepted}
 use Rattle.ledger.specs.Answering.{is_held}
 use Rattle.ledger.specs.declared.job.State.{State}

@@ -3,7 +3,6 @@ use Rattle.std.proofs.Common.{◌≡◌, ℕ, suc, pred, ◌<◌, Bool, true, fa
 use Rattle.std.specs.Option.{ok_or}
 use Rattle.std.specs.List.{slice_get, ContainsAt as Has}
 use Rattle.std.proofs.ByRecursion.{all-has}
-use Rattle.ledger.specs.Faults.{told}
 use Rattle.ledger.specs.Model.{LedgerModel, row, versions, first_unseen, installed_version, written_place}
 use Rattle.ledger.specs.Reading.{no_version}
 use Rattle.ledger.specs.declared.job.Read.{Read}

@@ -1,6 +1,5 @@
 -- The law of the house, from its parts.
 use Rattle.std.proofs.Common.{◌++◌, length, drop, ap}
-use Rattle.ledger.specs.Faults.{told}
 use Rattle.history.specs.Layout.{archive}
 use Rattle.history.specs.Laws.{Lawful}
 use Rattle.history.proofs.ValueLaws.{lawful}

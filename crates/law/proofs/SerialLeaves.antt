@@ -23,7 +23,7 @@ use Rattle.protocol.proofs.VersionSteps.{has_written_entry}
 use Rattle.house.specs.Model.{HouseModel}
 use Rattle.house.specs.Archiving.{Coding, job_leaf, house_leaves, house_archive}
 use Rattle.house.specs.Runs.{Event, Progress, Run}
-use Rattle.house.specs.Log.{contains, before, read, reads_in, writes_in, answered_in, is_answered_in, is_earlier_in, wrote_in, used_in, ConflictIn, outline_in}
+use Rattle.house.specs.Log.{contains, before, reads_in, writes_in, answered_in, is_answered_in, is_earlier_in, wrote_in, used_in, ConflictIn, outline_in}
 use Rattle.law.specs.Law.{entry_in, Agree}
 use Rattle.law.proofs.Entries.{each_read, each_write, any_valued, pairs_of_leaf, all_leaf_writes}
 use Rattle.law.proofs.Tying.{Tied, matched}

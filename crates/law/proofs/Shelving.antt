@@ -2,7 +2,6 @@
 use Rattle.std.proofs.Common.{◌≡◌, ℕ, ◌≤◌, Bool, true, false, cond, eqb, ltb, leb, List, [], ◌∷◌, length, Some, None, Ok, Err, Option, sym, refl, ap, ◌∙◌, arith}
 use Rattle.std.proofs.lemmas.Bool.{cond-false, le-ltb}
 use Rattle.bounded.specs.Searching.{any}
-use Rattle.ledger.specs.Faults.{told}
 use Rattle.ledger.specs.Model.{LedgerModel, row}
 use Rattle.ledger.specs.Opening.{open_fault, withdraw_fault}
 use Rattle.ledger.specs.Reading.{read_fault}

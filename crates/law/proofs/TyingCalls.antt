@@ -2,7 +2,6 @@
 use Rattle.std.proofs.Common.{◌≡◌, ℕ, ◌+◌, ◌<◌, ◌≤◌, Bool, true, false, cond, eqb, List, [], ◌∷◌, ◌++◌, length, get_or, replicate, None, Ok, Err, Result, sym, refl, ap, ◌∙◌, subst, arith}
 use Rattle.std.proofs.lemmas.List.{length_push}
 use Rattle.ledger.specs.Limits.{last_job, most_offices, offices_built}
-use Rattle.ledger.specs.Faults.{told}
 use Rattle.ledger.specs.Model.{RowModel, LedgerModel, unused, no_row, row, is_accepted}
 use Rattle.ledger.specs.Opening.{open_fault, open_done, withdraw_fault}
 use Rattle.ledger.specs.Writing.{write_fault, write_done}

@@ -1,7 +1,6 @@
 -- An accepted read keeps log and house tied: it tells what the row then lists, or the job's own write and lists nothing.
 use Rattle.std.proofs.Common.{◌≡◌, ℕ, suc, pred, ◌<◌, Bool, true, false, cond, not, ◌&&◌, eqb, List, [], ◌∷◌, ◌++◌, length, None, Ok, Result, sym, refl, ap, ◌∙◌, subst, arith}
 use Rattle.std.proofs.lemmas.List.{map_push}
-use Rattle.ledger.specs.Faults.{told}
 use Rattle.ledger.specs.Model.{LedgerModel, row, first_unseen, has_written, written_place}
 use Rattle.ledger.specs.Reading.{newest, is_new_read, read_fault, version_read, version_source, read_source, read_done}
 use Rattle.ledger.specs.declared.job.Read.{Read}

@@ -1,5 +1,5 @@
 -- Look-ups in a job's lists by the position k of the first entry of the record. Assumes nothing.
-use Rattle.std.proofs.Common.{◌≡◌, ℕ, suc, ◌+◌, ◌<◌, ◌≤◌, Bool, true, false, cond, not, ◌&&◌, eqb, leb, List, [], ◌∷◌, ◌++◌, length, get_or, set, Some, None, sym, refl, ap, ◌∙◌, subst, arith}
+use Rattle.std.proofs.Common.{◌≡◌, ℕ, suc, ◌<◌, ◌≤◌, Bool, true, false, cond, not, ◌&&◌, eqb, leb, List, [], ◌∷◌, ◌++◌, length, get_or, set, Some, None, sym, refl, ap, ◌∙◌, subst, arith}
 use Rattle.bounded.specs.Searching.{any, position}
 use Rattle.ledger.specs.Model.{first_unseen, has_written, installed_version, written_place}
 use Rattle.ledger.specs.Writing.{with_place}

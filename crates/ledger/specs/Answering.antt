@@ -1,5 +1,5 @@
 -- The rules of collect and close, and of who holds a job back; `src/answering.rt` and `src/order.rt` cite them. Assumes nothing.
-use Rattle.std.specs.Prelude.{ℕ, ◌+◌, Bool, cond, not, ◌&&◌, ◌||◌, List, [], ◌∷◌, length, Some, None, Option, ◌==◌, nat_le, nat_lt, slice_set}
+use Rattle.std.specs.Prelude.{ℕ, ◌+◌, Bool, cond, not, ◌&&◌, ◌||◌, List, ◌∷◌, length, Some, None, Option, ◌==◌, nat_le, nat_lt, slice_set}
 use Rattle.bounded.specs.Searching.{any, any_indexed}
 use Rattle.ledger.specs.Limits.{last_job}
 use Rattle.ledger.specs.Faults.{refuse_if}

@@ -11,7 +11,6 @@ use Rattle.ledger.specs.declared.job.Mark.{Mark}
 use Rattle.ledger.specs.declared.job.Mark.TheVariants.{Conflict, Stale, Full}
 use Rattle.ledger.specs.declared.job.State.{State}
 use Rattle.ledger.specs.declared.job.State.TheVariants.{NeverOpened, Open, Voting, Accepted, Dropped, Answered, Ended}
-use Rattle.ledger.specs.declared.job.Read.{Read}
 use Rattle.ledger.specs.declared.job.Write.{Write}
 use Rattle.ledger.specs.declared.job.Version.{Version}
 use Rattle.ledger.specs.declared.message.Vote.{Vote}

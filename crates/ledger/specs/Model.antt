@@ -1,9 +1,8 @@
 -- The ledger as its rules see it: plain lists of rows, of versions and of answered jobs. All rules of the ledger speak of it. Assumes nothing.
-use Rattle.std.specs.Prelude.{ℕ, suc, ◌+◌, Bool, true, false, cond, not, ◌&&◌, ◌||◌, List, [], ◌∷◌, ◌++◌, replicate, Some, None, Option, ◌==◌, nat_lt, slice_index_or, slice_set}
+use Rattle.std.specs.Prelude.{ℕ, suc, ◌+◌, Bool, true, false, cond, ◌||◌, List, [], ◌∷◌, replicate, None, ◌==◌, nat_lt, slice_index_or, slice_set}
 use Rattle.ledger.specs.Limits.{last_job, last_record, most_offices}
 use Rattle.ledger.specs.declared.job.JobKind.{JobKind}
 use Rattle.ledger.specs.declared.job.JobKind.TheVariants.{Amendment, Inspection}
-use Rattle.ledger.specs.declared.job.Mark.{Mark}
 use Rattle.ledger.specs.declared.job.State.{State}
 use Rattle.ledger.specs.declared.job.State.TheVariants.{NeverOpened, Open, Voting, Accepted, Dropped, Answered, Ended}
 use Rattle.ledger.specs.declared.job.Read.{Read}

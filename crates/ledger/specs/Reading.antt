@@ -1,5 +1,5 @@
 -- The rules of read; `src/reading.rt` cites them. Assumes nothing.
-use Rattle.std.specs.Prelude.{ℕ, zero, suc, pred, Bool, cond, not, ◌&&◌, List, [], ◌∷◌, ◌++◌, length, None, Option, ◌==◌, nat_le, nat_lt, slice_index_or}
+use Rattle.std.specs.Prelude.{ℕ, zero, suc, pred, Bool, cond, not, ◌&&◌, [], ◌∷◌, ◌++◌, length, None, Option, ◌==◌, nat_le, nat_lt, slice_index_or}
 use Rattle.bounded.specs.Searching.{highest}
 use Rattle.ledger.specs.Limits.{last_job, last_record, most_listed}
 use Rattle.ledger.specs.Faults.{refuse_if}

@@ -1,5 +1,5 @@
 -- What the tables of the code mean; every contract of the ledger goes by it. Assumes nothing.
-use Rattle.std.specs.Prelude.{ℕ, ◌%◌, List, map, reverse}
+use Rattle.std.specs.Prelude.{ℕ, ◌%◌, map, reverse}
 use Rattle.bounded.specs.Elements.{elements}
 use Rattle.ledger.specs.Model.{RowModel, LedgerModel}
 use Rattle.ledger.specs.declared.job.Row.{Row}

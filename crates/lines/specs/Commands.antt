@@ -1,5 +1,5 @@
 -- The command that a line writes, or its fault: what src/command.rt, src/letter.rt and src/parse.rt give. Assumes nothing.
-use Rattle.std.specs.Prelude.{ℕ, cond, List, [], ◌∷◌, length, Some, None, Ok, Err, codes, Option, Result, ◌==◌, nat_lt, slice_index}
+use Rattle.std.specs.Prelude.{ℕ, cond, List, [], ◌∷◌, length, Some, None, Err, codes, Option, Result, ◌==◌, nat_lt, slice_index}
 use Prim.Native.String.{String}
 use Rattle.std.specs.Option.{ok_or}
 use Rattle.lines.specs.Grammar.{then, field, one_field, two_fields, amount_fields}

@@ -82,6 +82,6 @@ fn newline_ends_a_line(rt: HostRuntime) {
     }
     assert_eq!(rt; lines.next(), None);
     let mut ended = Lines::new(b"a 1\n");
-    assert_eq!(rt; ended.next(), Some(b"a 1"));
+    assert_eq!(rt; ended.next(), Some(&b"a 1"[..]));
     assert_eq!(rt; ended.next(), None);
 }

@@ -6,7 +6,7 @@ use Rattle.std.proofs.lemmas.Bool.{cases_lt}
 use Rattle.bounded.specs.Searching.{any}
 use Rattle.ledger.specs.Limits.{last_job}
 use Rattle.ledger.specs.Model.{LedgerModel, idle, row, exchange, is_amendment, first_unseen, has_written, installed_version}
-use Rattle.ledger.specs.Delivering.{waits, installed}
+use Rattle.ledger.specs.Delivering.{waits}
 use Rattle.ledger.specs.Answering.{is_held, collect_fault}
 use Rattle.ledger.specs.declared.job.State.{State}
 use Rattle.ledger.specs.declared.job.State.TheVariants.{Accepted}

@@ -1,6 +1,6 @@
 -- Installed versions stand, and each has the place that its job wrote last.
 -- each installed version has the place that its job's row lists
-use Rattle.std.proofs.Common.{◌≡◌, ℕ, suc, pred, ◌+◌, ◌<◌, ◌≤◌, Bool, true, false, cond, not, ◌&&◌, eqb, ◌≢◌, List, [], ◌∷◌, ◌++◌, length, get_or, Some, None, sym, refl, ap, ◌∙◌, true≢false, arith}
+use Rattle.std.proofs.Common.{◌≡◌, ℕ, suc, pred, ◌+◌, ◌<◌, ◌≤◌, Bool, true, false, cond, not, ◌&&◌, eqb, List, [], ◌∷◌, ◌++◌, length, get_or, Some, None, sym, refl, ap, ◌∙◌, true≢false, arith}
 use Rattle.std.proofs.lemmas.List.{length_push, get_or_append_left}
 use Rattle.ledger.specs.Limits.{last_record}
 use Rattle.ledger.specs.Model.{LedgerModel, new_ledger, row, versions, exchange, put_row, with_state, is_open, is_accepted, first_unseen, has_written, written_place}

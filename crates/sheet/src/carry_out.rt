@@ -22,8 +22,8 @@ fn write_amount<S: Shelf<Value = Amount>>(
     currency: u64,
     units: i64,
 ) -> Result<(), Fault>
-    ensures told { result ≡ write_amount_told (model items room house.old) job «record» currency units }
-    ensures after { model items room house.new ≡ write_amount_after (model items room house.old) job «record» currency units }
+    ensures told { result ≡ write_amount_told (model S.items S.room house.old) job «record» currency units }
+    ensures after { model S.items S.room house.new ≡ write_amount_after (model S.items S.room house.old) job «record» currency units }
 {
     let amount = Amount::from_numbers(currency, units)?;
     house.write(job, record, amount)
@@ -33,8 +33,8 @@ pub(crate) fn carry_out<S: Shelf<Value = Amount>>(
     house: &mut House<S>,
     command: Command,
 ) -> Result<Answer, Cause>
-    ensures told { result ≡ command_told (model items room house.old) command }
-    ensures after { model items room house.new ≡ command_after (model items room house.old) command }
+    ensures told { result ≡ command_told (model S.items S.room house.old) command }
+    ensures after { model S.items S.room house.new ≡ command_after (model S.items S.room house.old) command }
 {
     match command {
         Command::OpenAmendment { job } => house.open(job, JobKind::Amendment)?,
@@ -59,8 +59,8 @@ pub(crate) fn carry_out_line<S: Shelf<Value = Amount>>(
     house: &mut House<S>,
     line: &[u8],
 ) -> Result<Answer, Cause>
-    ensures told { result ≡ line_told (model items room house.old) line.now }
-    ensures after { model items room house.new ≡ line_after (model items room house.old) line.now }
+    ensures told { result ≡ line_told (model S.items S.room house.old) line.now }
+    ensures after { model S.items S.room house.new ≡ line_after (model S.items S.room house.old) line.now }
 {
     let command = parse(line)?;
     carry_out(house, command)

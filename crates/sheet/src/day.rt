@@ -25,9 +25,10 @@ fn write_answer(text: &mut String, line: usize, answer: Result<Answer, Refusal>)
     ensures { OnOk result (string_bytes text.new ≡ string_bytes text.old ++ line_text line answer) }
 {
     match answer {
-        Ok(told) => write!(text, "{line} ok{told}\n"),
-        Err(refusal) => write!(text, "{refusal}\n"),
+        Ok(told) => write!(text, "{line} ok{told}\n")?,
+        Err(refusal) => write!(text, "{refusal}\n")?,
     }
+    Ok(())
 }
 
 fn write_jobs(text: &mut String, jobs: &[u8]) -> fmt::Result
@@ -54,7 +55,7 @@ fn write_lines<S: Shelf<Value = Amount>>(
     house: &mut House<S>,
     input: &[u8],
 ) -> fmt::Result
-    ensures { OnOk result (string_bytes text.new ≡ string_bytes text.old ++ lines_text 1 (model items room house.old) (lines_of (take most_input input.now))) }
+    ensures { OnOk result (string_bytes text.new ≡ string_bytes text.old ++ lines_text 1 (model S.items S.room house.old) (lines_of (take most_input input.now))) }
 {
     let mut n = 1;
     for line in Lines::new(first_bytes(input)) {

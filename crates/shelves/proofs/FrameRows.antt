@@ -1,5 +1,5 @@
 -- Frames in a row of bytes: where one lies, how many values they mean, one more, and the one at a place.
-use Rattle.std.proofs.Common.{◌≡◌, ℕ, suc, ◌+◌, ◌-◌, ◌*◌, ◌/◌, ◌<◌, ◌≤◌, min, List, [], ◌∷◌, ◌++◌, map, length, get_or, take, drop, Some, Ok, unwrap_or, sym, ap, ◌∙◌, mul-le-mul_right, suc-mul, div-mul-le_self, arith}
+use Rattle.std.proofs.Common.{◌≡◌, ℕ, suc, ◌+◌, ◌-◌, ◌*◌, ◌/◌, ◌<◌, ◌≤◌, min, List, [], ◌∷◌, ◌++◌, map, length, take, drop, Some, Ok, unwrap_or, sym, ap, ◌∙◌, mul-le-mul_right, suc-mul, div-mul-le_self, arith}
 use Rattle.std.proofs.lemmas.List.FromFn.{length-map-range_with_len, get_or-map-range_with_len, map-range_with_len_more, fill_by_all}
 use Rattle.std.proofs.lemmas.List.{length-append, length-take-le, length-drop, append_assoc, take_at, drop_at, take-append-le, drop-append-le, take-take, drop-take}
 use Rattle.std.proofs.lemmas.Option.{slice_get-get_or}

@@ -1,8 +1,8 @@
 -- An amount is its two numbers; its bytes and its cell give it back.
-use Rattle.std.specs.Prelude.{◌≡◌, ℕ, ◌^◌, ◌<◌, ◌≤◌, Bool, true, false, cond, T, List, ◌++◌, length, take, drop, ℤ, pos, negsuc, ◌≤ℤ◌, Some, None, Option, FitsSigned, ◌==◌, int_le, refl}
+use Rattle.std.specs.Prelude.{◌≡◌, ℕ, ◌^◌, ◌<◌, Bool, true, false, cond, T, List, ◌++◌, length, take, drop, ℤ, pos, negsuc, ◌≤ℤ◌, Some, None, Option, FitsSigned, ◌==◌, int_le, refl}
 use Rattle.std.proofs.Common.{sym, ap, subst, ◌∙◌, arith, take-append-drop, of_z, to_z}
 use mathlib.Core.HLevel.{is_prop→PathP}
-use denote.Struct.Props.{≤ℤ_prop}
+use Rattle.std.proofs.Props.{props}
 use Rattle.std.specs.Int.{w64}
 use Rattle.std.proofs.lemmas.List.{length-take-le, length-drop, take_all}
 use Rattle.std.proofs.lemmas.Int.{ints, to_z-of_z, of_z-to_z}
@@ -26,8 +26,8 @@ pub amount_ext : (a b : Amount) → a.currency ≡ b.currency → a.units ≡ b.
 amount_ext a b p q = λ i. record {
   currency = p i;
   units = q i;
-  low = is_prop→PathP (λ j. least_units ≤ℤ q j) (λ j. ≤ℤ_prop) a.low b.low i;
-  high = is_prop→PathP (λ j. q j ≤ℤ most_units) (λ j. ≤ℤ_prop) a.high b.high i;
+  low = is_prop→PathP (λ j. least_units ≤ℤ q j) (λ j. hlevel props) a.low b.low i;
+  high = is_prop→PathP (λ j. q j ≤ℤ most_units) (λ j. hlevel props) a.high b.high i;
 }
 
 -- a test cannot fail where its fact holds

@@ -4,5 +4,5 @@ use Rattle.history.proofs.archive_sized.Goals as goal
 
 pub returns : goal.returns
 returns g c =
-    archive_sized g.row.V-Value.bytes g.row.V-Value.kind g.row.V-Value.width
-    (lawful g.row.V-Value.bytes g.row.V-Value.parsed g.row.V-Value.width g.met.V.Value.bytes_width g.met.V.Value.parsed_bytes)
+    archive_sized g.V.Value.bytes g.V.Value.kind g.V.Value.width
+    (lawful g.V.Value.bytes g.V.Value.parsed g.V.Value.width g.met.V.Value.bytes_width g.met.V.Value.parsed_bytes)

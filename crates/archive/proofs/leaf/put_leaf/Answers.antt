@@ -16,15 +16,15 @@ returns g c =
     let m = g.row.Value-Value in
     let items = g.S.Shelf.items c.args.shelf.now in
     let x = row_view c.args.row.now in
-    let size = c.leaf-size-size.result in
+    let size = c.leaf_size-size.result in
     record {
       puts =
           leaf_put m.bytes items m.width (lawful m.bytes m.parsed m.width g.met.Value.Value.bytes_width g.met.Value.Value.parsed_bytes) c.args.job x c.requires size
-          (cursor_output c.args.cursor.now) (cursor_output c.put-frame-head.new.self) (cursor_output c.put-u16.new.self) (cursor_output c.put-counted.new.self) (cursor_output c.put-counted-2.new.self)
-          (c.leaf-size-size.ensures.value ∙ ap (λ w. row_size w x) c.byte-width.ensures)
-          (c.put-frame-head.ensures.puts ∙ ap (λ k. put_bytes (little_endian 4 (size - 4) ++ little_endian 2 k) (cursor_output c.args.cursor.now)) c.frame-kind.ensures)
-          c.put-u16.ensures.puts
-          (c.put-counted.ensures.puts ∙ ap (λ l. put_bytes (counted read_bytes l) (cursor_output c.put-u16.new.self)) c.as-slice.ensures.value)
-          (c.put-counted-2.ensures.puts ∙ ap (λ l. put_bytes (counted (λ w. flat_map (write_bytes m.bytes) (leaf_writes items (w ∷ []))) l) (cursor_output c.put-counted.new.self)) c.as-slice-2.ensures.value);
-      same = cc (c.put-frame-head.ensures.same, c.put-u16.ensures.same, c.put-counted.ensures.same, c.put-counted-2.ensures.same);
+          (cursor_output c.args.cursor.now) (cursor_output c.put_frame_head.new.self) (cursor_output c.put_u16.new.self) (cursor_output c.put_counted.new.self) (cursor_output c.put_counted-2.new.self)
+          (c.leaf_size-size.ensures.value ∙ ap (λ w. row_size w x) c.byte_width.ensures)
+          (c.put_frame_head.ensures.puts ∙ ap (λ k. put_bytes (little_endian 4 (size - 4) ++ little_endian 2 k) (cursor_output c.args.cursor.now)) c.frame_kind.ensures)
+          c.put_u16.ensures.puts
+          (c.put_counted.ensures.puts ∙ ap (λ l. put_bytes (counted read_bytes l) (cursor_output c.put_u16.new.self)) c.as_slice.ensures.value)
+          (c.put_counted-2.ensures.puts ∙ ap (λ l. put_bytes (counted (λ w. flat_map (write_bytes m.bytes) (leaf_writes items (w ∷ []))) l) (cursor_output c.put_counted.new.self)) c.as_slice-2.ensures.value);
+      same = cc (c.put_frame_head.ensures.same, c.put_u16.ensures.same, c.put_counted.ensures.same, c.put_counted-2.ensures.same);
     }

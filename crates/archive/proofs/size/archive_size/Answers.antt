@@ -9,5 +9,5 @@ pub returns : goal.returns
 returns g c =
     let m = g.row.Value-Value in
     let rows = (view c.args.ledger.now).rows in
-    ap (λ n. 12 + n) (c.leaves-size.ensures.value ∙ ap (λ w. sum_by (size_if_answered w) rows) c.byte-width.ensures)
+    ap (λ n. 12 + n) (c.leaves_size.ensures.value ∙ ap (λ w. sum_by (size_if_answered w) rows) c.byte_width.ensures)
     ∙ sym (archive_length (g.S.Shelf.items c.args.shelf.now) m.bytes m.kind m.width (lawful m.bytes m.parsed m.width g.met.Value.Value.bytes_width g.met.Value.Value.parsed_bytes) rows c.requires)

@@ -6,7 +6,7 @@ use Rattle.archive.proofs.size.leaf_count.Goals as goal
 
 pub loop-row-preserved : goal.loop-row-preserved
 loop-row-preserved c =
-    let m = c.row-leaf-count-count in
+    let m = c.row_leaf_count-count in
     (sum_turn row_view row_count c.args.rows.now c.loop-row.count m.result c.loop-row.row-index _ c.loop-row-test.true m.ensures.value c.loop-row.invariant.0, omega (arith, m.ensures.bound))
 
 pub returns : goal.returns

@@ -6,7 +6,7 @@ use Rattle.archive.proofs.size.leaves_size.Goals as goal
 
 pub loop-row-preserved : goal.loop-row-preserved
 loop-row-preserved c =
-    let m = c.row-share-size in
+    let m = c.row_share-size in
     (sum_turn row_view (size_if_answered c.args.width) c.args.rows.now c.loop-row.size m.result c.loop-row.row-index _ c.loop-row-test.true m.ensures.value c.loop-row.invariant.0, omega (arith, m.ensures.bound))
 
 pub returns : goal.returns

@@ -9,8 +9,8 @@ returns g c =
     let m = g.row.Value-Value in
     record {
       puts =
-          archive_put m.bytes (g.S.Shelf.items c.args.shelf.now) m.kind m.width c.leaf-count.result (map row_view c.args.rows.now)
-          (cursor_output c.args.cursor.now) (cursor_output c.put-head.new.cursor) (cursor_output c.put-leaves.new.cursor)
-          c.leaf-count.ensures.value c.put-head.ensures.puts c.put-leaves.ensures.puts;
-      same = cc (c.put-head.ensures.same, c.put-leaves.ensures.same);
+          archive_put m.bytes (g.S.Shelf.items c.args.shelf.now) m.kind m.width c.leaf_count.result (map row_view c.args.rows.now)
+          (cursor_output c.args.cursor.now) (cursor_output c.put_head.new.cursor) (cursor_output c.put_leaves.new.cursor)
+          c.leaf_count.ensures.value c.put_head.ensures.puts c.put_leaves.ensures.puts;
+      same = cc (c.put_head.ensures.same, c.put_leaves.ensures.same);
     }

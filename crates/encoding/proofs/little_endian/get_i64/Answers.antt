@@ -5,5 +5,5 @@ use Rattle.encoding.proofs.little_endian.get_i64.Goals as goal
 
 pub returns : goal.returns
 returns c =
-    to_z-of_z w64 c.from-le-bytes.result (record { sfits = c.from-le-bytes.type-inv })
-    ∙ c.from-le-bytes.ensures ∙ ap (to_z w64) (sym (number_of_8 c.args.bytes.now c.requires))
+    to_z-of_z w64 c.from_le_bytes.result (record { sfits = c.from_le_bytes.type_inv })
+    ∙ c.from_le_bytes.ensures ∙ ap (to_z w64) (sym (number_of_8 c.args.bytes.now c.requires))

@@ -6,7 +6,7 @@ use Rattle.ledger.proofs.handing_in.prepares.Goals as goal
 pub loop-office-preserved : goal.loop-office-preserved
 loop-office-preserved c = (
   simp length-set c.loop-office.invariant.0,
-  map_indexed_more _ all_idle _ c.loop-office.office idle _ (omega arith) c.loop-office.invariant.1 c.first-exchange.ensures,
+  map_indexed_more _ all_idle _ c.loop-office.office idle _ (omega arith) c.loop-office.invariant.1 c.first_exchange.ensures,
 )
 
 pub returns : goal.returns

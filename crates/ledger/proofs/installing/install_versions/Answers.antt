@@ -16,9 +16,9 @@ loop-record-preserved c =
     let r = c.loop-record.«record» in
     let long : length old ≡ 64 = length-map c.args.records.now elements ∙ c.told-records in (
       simp length-set c.loop-record.invariant.0,
-      map-set elements now-there r c.install-version.new.versions
-          ∙ map_indexed_more f old (map elements now-there) r [] (elements c.install-version.new.versions) (omega (arith, long)) c.loop-record.invariant.1
-          (c.install-version.ensures ∙ ap (f r) (sym (get_or-map elements now-there r no_versions))),
+      map-set elements now-there r c.install_version.new.versions
+          ∙ map_indexed_more f old (map elements now-there) r [] (elements c.install_version.new.versions) (omega (arith, long)) c.loop-record.invariant.1
+          (c.install_version.ensures ∙ ap (f r) (sym (get_or-map elements now-there r no_versions))),
     )
 
 pub returns : goal.returns

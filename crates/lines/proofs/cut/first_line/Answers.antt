@@ -3,5 +3,5 @@ use Rattle.std.proofs.lemmas.Bool.{eqb-true}
 use Rattle.lines.proofs.Cuts.{no_lines}
 use Rattle.lines.proofs.cut.first_line.Goals as goal
 
-pub returns-then-is-empty : goal.returns-then-is-empty
-returns-then-is-empty c = record { value = no_lines _ (eqb-true _ 0 (sym c.if-is-empty.ensures)); bound = tt }
+pub returns-then-is_empty : goal.returns-then-is_empty
+returns-then-is_empty c = record { value = no_lines _ (eqb-true _ 0 (sym c.if-is_empty.ensures)); bound = tt }

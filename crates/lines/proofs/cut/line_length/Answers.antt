@@ -7,11 +7,11 @@ use Rattle.lines.proofs.cut.line_length.Goals as goal
 
 pub loop-n-preserved : goal.loop-n-preserved
 loop-n-preserved c =
-    (omega arith, omega (arith, c.loop-n.invariant.1, prefix_len-drop_yes (λ b. not (eqb b newline)) c.args.input.now c.loop-n.n 0 c.loop-n-test.true (not_from_false _ (sym c.if-not-ends-line.ensures))))
+    (omega arith, omega (arith, c.loop-n.invariant.1, prefix_len-drop_yes (λ b. not (eqb b newline)) c.args.input.now c.loop-n.n 0 c.loop-n-test.true (not_from_false _ (sym c.if-not-ends_line.ensures))))
 
-pub returns-else-not-ends-line : goal.returns-else-not-ends-line
-returns-else-not-ends-line c =
-    let e : c.loop-n.n ≡ before_newline c.args.input.now = omega (arith, c.loop-n.invariant.1, prefix_len-drop_no (λ b. not (eqb b newline)) c.args.input.now c.loop-n.n 0 c.loop-n-test.true (not_from_true _ (sym c.if-not-ends-line.ensures))) in
+pub returns-else-not-ends_line : goal.returns-else-not-ends_line
+returns-else-not-ends_line c =
+    let e : c.loop-n.n ≡ before_newline c.args.input.now = omega (arith, c.loop-n.invariant.1, prefix_len-drop_no (λ b. not (eqb b newline)) c.args.input.now c.loop-n.n 0 c.loop-n-test.true (not_from_true _ (sym c.if-not-ends_line.ensures))) in
     record { bound = c.loop-n.invariant.0; cuts = rw e (cut_at_newline c.args.input.now) }
 
 pub returns-after-loop-n : goal.returns-after-loop-n

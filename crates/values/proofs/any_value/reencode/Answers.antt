@@ -6,12 +6,12 @@ use Rattle.values.proofs.any_value.reencode.Goals as goal
 
 pub returns-in-Ok : goal.returns-in-Ok
 returns-in-Ok g c =
-    let m = g.V-as-Value in
+    let m = g.V.Value in
     let s = c.args.encoded.now in
     let out = c.args.out.now in
     let v = c.in-Ok.value in
     let p = some_from_ok (m.parsed s) _ v c.in-Ok.ensures in
-    let same = g.met.V.Value.bytes_parsed s v (octets s (λ i. (c.type-inv.encoded i).fits)) p in
+    let same = g.met.V.Value.bytes_parsed s v (octets s (λ i. (c.type_inv.encoded i).fits)) p in
     let test : eqb (length out) m.width ≡ reencodes m s out = ap (λ o. cond (is_some o) (eqb (length out) m.width) false) (sym p) in
     record {
       told = c.encode.ensures.told ∙ test;

@@ -1,4 +1,4 @@
-use Rattle.std.proofs.Common.{sym, rules}
+use Rattle.std.proofs.Common.{rules}
 use Rattle.bounded.proofs.Fronts.{room_left, no_room, pushed, not_pushed}
 use Rattle.bounded.proofs.list.Bounded.push.Goals as goal
 

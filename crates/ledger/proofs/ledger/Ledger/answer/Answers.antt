@@ -4,6 +4,6 @@ use Rattle.ledger.proofs.ledger.Ledger.answer.Goals as goal
 
 pub returns : goal.returns
 returns c = record {
-  after = view_answer c.args.self.now c.args.job _ c.push.new.self c.answer-row.ensures c.push.ensures.after;
+  after = view_answer c.args.self.now c.args.job _ c.push.new.self c.answer_row.ensures c.push.ensures.after;
   offices = search rules;
 }

@@ -5,8 +5,8 @@ use Rattle.ledger.proofs.ledger.Ledger.check_amendment.Goals as goal
 pub returns-in-NeverOpened-default : goal.returns-in-NeverOpened-default
 returns-in-NeverOpened-default c = search (rules, row_of_view c.args.self.now c.args.job)
 
-pub returns-in-default-Inspection : goal.returns-in-default-Inspection
-returns-in-default-Inspection c = search (rules, row_of_view c.args.self.now c.args.job)
+pub returns-in_default-Inspection : goal.returns-in_default-Inspection
+returns-in_default-Inspection c = search (rules, row_of_view c.args.self.now c.args.job)
 
-pub returns-in-default-Amendment : goal.returns-in-default-Amendment
-returns-in-default-Amendment c = search (rules, row_of_view c.args.self.now c.args.job)
+pub returns-in_default-Amendment : goal.returns-in_default-Amendment
+returns-in_default-Amendment c = search (rules, row_of_view c.args.self.now c.args.job)

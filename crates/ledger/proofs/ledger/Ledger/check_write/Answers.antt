@@ -13,23 +13,23 @@ use Rattle.ledger.proofs.ledger.Ledger.check_write.Goals as goal
 abbrev room_check : ℕ → RowModel → Option LedgerFault
 room_check r x = refuse_if (not (has_written x.writes r) && leb most_listed (length x.writes)) fault.TooManyWrites None
 
-pub returns-in-err-check-open-amendment : goal.returns-in-err-check-open-amendment
-returns-in-err-check-open-amendment c =
-    told_exit _ _ c.from-residual.ensures.1
+pub returns-in_err-check_open_amendment : goal.returns-in_err-check_open_amendment
+returns-in_err-check_open_amendment c =
+    told_exit _ _ c.from_residual.ensures.1
     ∙ told_refused _ tt _
     (known_job_and_record (λ x. amendment_checks x (room_check c.args.record x)) c.args.self.now c.args.job c.args.record
-    c.if-job-gt-LAST-JOB.false c.if-record-gt-LAST-RECORD.false
+    c.if-job-gt-LAST_JOB.false c.if-record-gt-LAST_RECORD.false
     ∙ amendment_refused (row_view (get_or c.args.self.now.rows c.args.job no_table_row))
     (room_check c.args.record (row_view (get_or c.args.self.now.rows c.args.job no_table_row))) _
-    (refused_for _ tt _ c.in-err-check-open-amendment.ensures))
+    (refused_for _ tt _ c.in_err-check_open_amendment.ensures))
 
 pub returns : goal.returns
 returns c =
-    c.check-room.ensures
+    c.check_room.ensures
     ∙ ap (λ why. told why tt)
     (sym
     (known_job_and_record (λ x. amendment_checks x (room_check c.args.record x)) c.args.self.now c.args.job c.args.record
-    c.if-job-gt-LAST-JOB.false c.if-record-gt-LAST-RECORD.false
+    c.if-job-gt-LAST_JOB.false c.if-record-gt-LAST_RECORD.false
     ∙ amendment_passed (row_view (get_or c.args.self.now.rows c.args.job no_table_row))
     (room_check c.args.record (row_view (get_or c.args.self.now.rows c.args.job no_table_row)))
-    (not_refused _ tt tt c.in-ok-check-open-amendment.ensures)))
+    (not_refused _ tt tt c.in_ok-check_open_amendment.ensures)))

@@ -3,4 +3,4 @@ use Rattle.ledger.proofs.Holds.{held_by_rows}
 use Rattle.ledger.proofs.ledger.Ledger.held.Goals as goal
 
 pub returns : goal.returns
-returns c = c.any-indexed.ensures ∙ held_by_rows c.args.self.now c.args.job
+returns c = c.any_indexed.ensures ∙ held_by_rows c.args.self.now c.args.job

@@ -10,10 +10,10 @@ use Rattle.ledger.proofs.ledger.Ledger.install.Goals as goal
 pub returns : goal.returns
 returns c = record {
   after =
-      view_installed c.args.self.now c.args.job c.args.office _ (elements c.installed-writes-installed.result) c.install-versions.new.records c.settle.ensures
-      c.installed-writes-installed.ensures
-      (c.install-versions.ensures
+      view_installed c.args.self.now c.args.job c.args.office _ (elements c.installed_writes-installed.result) c.install_versions.new.records c.settle.ensures
+      c.installed_writes-installed.ensures
+      (c.install_versions.ensures
       ∙ ap (λ (ws : List Write). map_indexed (record_installed (office_of c.args.self.now) ws c.args.job c.args.office) 0 (map elements c.args.self.now.records))
-      c.as-slice.ensures.value);
+      c.as_slice.ensures.value);
   offices = search rules;
 }

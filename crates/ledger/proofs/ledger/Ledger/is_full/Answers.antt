@@ -5,4 +5,4 @@ use Rattle.ledger.proofs.Views.{row_of_view}
 use Rattle.ledger.proofs.ledger.Ledger.is_full.Goals as goal
 
 pub returns : goal.returns
-returns c = c.any.ensures ∙ ap (any _) (c.as-slice.ensures.value ∙ ap (λ (x : RowModel). x.writes) (sym (row_of_view c.args.self.now c.args.job)))
+returns c = c.any.ensures ∙ ap (any _) (c.as_slice.ensures.value ∙ ap (λ (x : RowModel). x.writes) (sym (row_of_view c.args.self.now c.args.job)))

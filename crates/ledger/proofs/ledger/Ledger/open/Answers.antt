@@ -1,5 +1,5 @@
 use Rattle.std.proofs.Common.{rules}
-use Rattle.ledger.proofs.Views.{row_of_view, view_put_row}
+use Rattle.ledger.proofs.Views.{view_put_row}
 use Rattle.ledger.specs.Opening.{newly_opened}
 use Rattle.ledger.proofs.ledger.Ledger.open.Goals as goal
 

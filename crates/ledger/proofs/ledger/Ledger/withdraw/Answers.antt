@@ -5,18 +5,18 @@ use Rattle.ledger.proofs.Refusals.{amendment_checks, known_job, refused_for, not
 use Rattle.ledger.proofs.Views.{view_put_row}
 use Rattle.ledger.proofs.ledger.Ledger.withdraw.Goals as goal
 
-pub returns-in-err-check-open-amendment : goal.returns-in-err-check-open-amendment
-returns-in-err-check-open-amendment c =
+pub returns-in_err-check_open_amendment : goal.returns-in_err-check_open_amendment
+returns-in_err-check_open_amendment c =
     record {
       told =
-          told_exit _ _ c.from-residual.ensures.1
+          told_exit _ _ c.from_residual.ensures.1
           ∙ told_refused _ tt _
-          (known_job (λ x. amendment_checks x None) c.args.self.now c.args.job c.if-job-gt-LAST-JOB.false
-          ∙ refused_for _ tt _ c.in-err-check-open-amendment.ensures);
+          (known_job (λ x. amendment_checks x None) c.args.self.now c.args.job c.if-job-gt-LAST_JOB.false
+          ∙ refused_for _ tt _ c.in_err-check_open_amendment.ensures);
       after =
           guarded_refused _ _ _ _
-          (known_job (λ x. amendment_checks x None) c.args.self.now c.args.job c.if-job-gt-LAST-JOB.false
-          ∙ refused_for _ tt _ c.in-err-check-open-amendment.ensures);
+          (known_job (λ x. amendment_checks x None) c.args.self.now c.args.job c.if-job-gt-LAST_JOB.false
+          ∙ refused_for _ tt _ c.in_err-check_open_amendment.ensures);
       offices = refl;
     }
 
@@ -25,12 +25,12 @@ returns c =
     record {
       told =
           told_done _ tt
-          (known_job (λ x. amendment_checks x None) c.args.self.now c.args.job c.if-job-gt-LAST-JOB.false
-          ∙ not_refused _ tt tt c.in-ok-check-open-amendment.ensures);
+          (known_job (λ x. amendment_checks x None) c.args.self.now c.args.job c.if-job-gt-LAST_JOB.false
+          ∙ not_refused _ tt tt c.in_ok-check_open_amendment.ensures);
       after =
           view_put_row (λ x. with_state x Ended) c.args.self.now c.args.job c.end.new.row c.end.ensures
           ∙ guarded_done _ _ _
-          (known_job (λ x. amendment_checks x None) c.args.self.now c.args.job c.if-job-gt-LAST-JOB.false
-          ∙ not_refused _ tt tt c.in-ok-check-open-amendment.ensures);
+          (known_job (λ x. amendment_checks x None) c.args.self.now c.args.job c.if-job-gt-LAST_JOB.false
+          ∙ not_refused _ tt tt c.in_ok-check_open_amendment.ensures);
       offices = refl;
     }

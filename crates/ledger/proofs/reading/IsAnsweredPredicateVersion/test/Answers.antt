@@ -7,5 +7,5 @@ use Rattle.ledger.proofs.reading.IsAnsweredPredicateVersion.test.Goals as goal
 pub returns-in-Answered : goal.returns-in-Answered
 returns-in-Answered c = let e = get_or-map row_view c.args.self.now.rows.now c.args.v.now.job no_table_row in search rules
 
-pub returns-in-default : goal.returns-in-default
-returns-in-default c = let e = get_or-map row_view c.args.self.now.rows.now c.args.v.now.job no_table_row in search rules
+pub returns-in_default : goal.returns-in_default
+returns-in_default c = let e = get_or-map row_view c.args.self.now.rows.now c.args.v.now.job no_table_row in search rules

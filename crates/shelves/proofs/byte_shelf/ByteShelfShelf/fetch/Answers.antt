@@ -5,14 +5,14 @@ use Rattle.shelves.proofs.FrameRows.{length_values, fetched_value}
 use Rattle.shelves.proofs.byte_shelf.ByteShelfShelf.fetch.Goals as goal
 
 pub returns-then-place-len : goal.returns-then-place-len
-returns-then-place-len g c = sym (fetched_past (byte_items g.row.V-Value c.args.self.now) _ c.args.place (sym c.len.ensures) (omega arith))
+returns-then-place-len g c = sym (fetched_past (byte_items g.V.Value c.args.self.now) _ c.args.place (sym c.len.ensures) (omega arith))
 
-pub frame-value-requires : goal.frame-value-requires
-frame-value-requires g c = let s = c.args.self.now in omega (arith, length_values g.row.V-Value s.len s.bytes.now)
+pub frame_value-requires : goal.frame_value-requires
+frame_value-requires g c = let s = c.args.self.now in omega (arith, length_values g.V.Value s.len s.bytes.now)
 
 pub returns : goal.returns
 returns g c =
-    let m = g.row.V-Value in
+    let m = g.V.Value in
     let s = c.args.self.now in
     let h : c.args.place < min s.len (byte_room m s) = omega (arith, length_values m s.len s.bytes.now) in
-    ap (λ x. Ok x) c.frame-value.ensures ∙ sym (fetched_value m s.len s.bytes.now c.args.place h)
+    ap (λ x. Ok x) c.frame_value.ensures ∙ sym (fetched_value m s.len s.bytes.now c.args.place h)

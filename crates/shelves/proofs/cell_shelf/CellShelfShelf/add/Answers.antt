@@ -5,16 +5,16 @@ use Rattle.shelves.proofs.Added.{full, spacious, told_next}
 use Rattle.shelves.proofs.CellRows.{length_values, values_more}
 use Rattle.shelves.proofs.cell_shelf.CellShelfShelf.add.Goals as goal
 
-pub returns-then-place-room-of : goal.returns-then-place-room-of
-returns-then-place-room-of g c =
+pub returns-then-place-room_of : goal.returns-then-place-room_of
+returns-then-place-room_of g c =
     let s = c.args.self.now in
-    let vs = cell_items g.row.V-Value s in
-    let e : length vs ≡ cell_room s = omega (arith, length_values g.row.V-Value s.len s.cells.now) in
+    let vs = cell_items g.V.Value s in
+    let e : length vs ≡ cell_room s = omega (arith, length_values g.V.Value s.len s.cells.now) in
     record { told = sym (full vs _ _ _ e); holds = sym (full vs _ _ _ e); same = λ _. refl; keeps = refl; written = sym (full vs _ _ _ e); named = refl }
 
 pub returns : goal.returns
 returns g c =
-    let m = g.row.V-Value in
+    let m = g.V.Value in
     let s = c.args.self.now in
     let v = c.args.value in
     let cs = s.cells.now in
@@ -25,11 +25,11 @@ returns g c =
     record {
       told = sym (told_next vs s.len _ e h);
       holds =
-          ap (values_in m (s.len + 1)) c.put-value.ensures
+          ap (values_in m (s.len + 1)) c.put_value.ensures
           ∙ values_more m s.len cs _ v h (g.met.V.Value.restored_cell v)
           ∙ sym (spacious vs _ _ _ l);
       same = λ q. absurd (omega (arith, q, l));
-      keeps = omega (arith, ap length c.put-value.ensures, length-set cs s.len (m.cell v));
-      written = c.put-value.ensures ∙ ap (λ k. set cs k (m.cell v)) (sym e) ∙ sym (spacious vs _ _ _ l);
+      keeps = omega (arith, ap length c.put_value.ensures, length-set cs s.len (m.cell v));
+      written = c.put_value.ensures ∙ ap (λ k. set cs k (m.cell v)) (sym e) ∙ sym (spacious vs _ _ _ l);
       named = refl;
     }

@@ -5,13 +5,13 @@ use Rattle.shelves.proofs.CellRows.{length_values, fetched_value}
 use Rattle.shelves.proofs.cell_shelf.CellShelfShelf.fetch.Goals as goal
 
 pub returns-then-place-len : goal.returns-then-place-len
-returns-then-place-len g c = sym (fetched_past (cell_items g.row.V-Value c.args.self.now) _ c.args.place (sym c.len.ensures) (omega arith))
+returns-then-place-len g c = sym (fetched_past (cell_items g.V.Value c.args.self.now) _ c.args.place (sym c.len.ensures) (omega arith))
 
-pub value-at-requires : goal.value-at-requires
-value-at-requires g c = let s = c.args.self.now in omega (arith, length_values g.row.V-Value s.len s.cells.now)
+pub value_at-requires : goal.value_at-requires
+value_at-requires g c = let s = c.args.self.now in omega (arith, length_values g.V.Value s.len s.cells.now)
 
 pub returns : goal.returns
 returns g c =
     let s = c.args.self.now in
-    let e = length_values g.row.V-Value s.len s.cells.now in
-    sym (fetched_value g.row.V-Value s.len s.cells.now c.args.place c.value-at.result (omega arith) (omega arith) c.value-at.ensures)
+    let e = length_values g.V.Value s.len s.cells.now in
+    sym (fetched_value g.V.Value s.len s.cells.now c.args.place c.value_at.result (omega arith) (omega arith) c.value_at.ensures)

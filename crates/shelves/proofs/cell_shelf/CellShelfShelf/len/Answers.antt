@@ -3,4 +3,4 @@ use Rattle.shelves.proofs.CellRows.{length_values}
 use Rattle.shelves.proofs.cell_shelf.CellShelfShelf.len.Goals as goal
 
 pub returns : goal.returns
-returns g c = let s = c.args.self.now in omega (arith, length_values g.row.V-Value s.len s.cells.now)
+returns g c = let s = c.args.self.now in omega (arith, length_values g.V.Value s.len s.cells.now)

@@ -9,9 +9,9 @@ use Rattle.values.proofs.amount.kind.AmountValue.decode.Goals as goal
 
 pub returns : goal.returns
 returns c =
-    let n = c.get-u16-currency.result in
-    let z = c.get-i64-units.result in
-    c.ok-or.ensures.value
-    ∙ ap (λ o. ok_or o NotAValue) (c.ok.ensures.value ∙ ap result_ok c.from-numbers.ensures
-    ∙ ap (amount_if_any n) (to_z-of_z w64 z (record { sfits = c.get-i64-units.type-inv }))
-    ∙ sym (amount_in_is c.args.encoded.now n z c.if-encoded-ne-WIDTH.false c.get-u16-currency.ensures c.get-i64-units.ensures))
+    let n = c.get_u16-currency.result in
+    let z = c.get_i64-units.result in
+    c.ok_or.ensures.value
+    ∙ ap (λ o. ok_or o NotAValue) (c.ok.ensures.value ∙ ap result_ok c.from_numbers.ensures
+    ∙ ap (amount_if_any n) (to_z-of_z w64 z (record { sfits = c.get_i64-units.type_inv }))
+    ∙ sym (amount_in_is c.args.encoded.now n z c.if-encoded-ne-WIDTH.false c.get_u16-currency.ensures c.get_i64-units.ensures))

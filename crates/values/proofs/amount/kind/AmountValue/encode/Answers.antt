@@ -16,8 +16,8 @@ returns c =
     record {
       told = sym test;
       written =
-          two_parts out c.put-u16.new.out c.put-i64.new.out 2 8 ten (ap length c.put-u16.ensures)
-          ∙ ap (λ x. x ++ c.put-i64.new.out) (c.put-u16.ensures ∙ ap (little_endian 2) c.number.ensures)
-          ∙ ap (λ x. little_endian 2 (currency_number a.currency) ++ x) (c.put-i64.ensures ∙ ap (λ z. little_endian 8 (of_z w64 z)) (to_z-of_z w64 a.units (units_fit a)))
+          two_parts out c.put_u16.new.out c.put_i64.new.out 2 8 ten (ap length c.put_u16.ensures)
+          ∙ ap (λ x. x ++ c.put_i64.new.out) (c.put_u16.ensures ∙ ap (little_endian 2) c.number.ensures)
+          ∙ ap (λ x. little_endian 2 (currency_number a.currency) ++ x) (c.put_i64.ensures ∙ ap (λ z. little_endian 8 (of_z w64 z)) (to_z-of_z w64 a.units (units_fit a)))
           ∙ sym (cond-true (eqb (length out) 10) _ _ test);
     }

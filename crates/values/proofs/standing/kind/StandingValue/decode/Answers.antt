@@ -6,6 +6,6 @@ use Rattle.values.proofs.standing.kind.StandingValue.decode.Goals as goal
 
 pub returns : goal.returns
 returns c =
-    c.ok-or.ensures.value
-    ∙ ap (λ o. ok_or o NotAValue) (c.from-numbers.ensures
-    ∙ sym (standing_in_is c.args.encoded.now _ c.get-u32-number.result c.if-encoded-ne-WIDTH.false refl c.get-u32-number.ensures))
+    c.ok_or.ensures.value
+    ∙ ap (λ o. ok_or o NotAValue) (c.from_numbers.ensures
+    ∙ sym (standing_in_is c.args.encoded.now _ c.get_u32-number.result c.if-encoded-ne-WIDTH.false refl c.get_u32-number.ensures))

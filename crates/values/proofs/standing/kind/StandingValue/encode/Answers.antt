@@ -15,9 +15,9 @@ returns c =
     record {
       told = sym test;
       written =
-          after_first out c.state.result c.put-u32.new.out 4 five
-          ∙ ap (λ k. k ∷ c.put-u32.new.out) c.state.ensures
-          ∙ ap (λ x. standing_state v ∷ x) (c.put-u32.ensures ∙ ap (little_endian 4) c.number.ensures)
+          after_first out c.state.result c.put_u32.new.out 4 five
+          ∙ ap (λ k. k ∷ c.put_u32.new.out) c.state.ensures
+          ∙ ap (λ x. standing_state v ∷ x) (c.put_u32.ensures ∙ ap (little_endian 4) c.number.ensures)
           ∙ sym (bytes_are v)
           ∙ sym (cond-true (eqb (length out) 5) _ _ test);
     }
