@@ -1,6 +1,6 @@
 // Searches over slices, proved once: a question about elements is a type with a `test`, which stands in the place of a closure.
 ghost use Rattle.std.specs.Prelude.{◌≡◌, ℕ, ◌≤◌, Bool, length};
-ghost use Rattle.bounded.specs.Searching.{any as some, any_indexed as some-indexed, position as place, highest as top};
+ghost use Rattle.bounded.specs.Searching.{any as some, any_indexed as some_indexed, position as place, highest as top};
 
 // A question about an element.
 pub trait Predicate<X> {
@@ -34,7 +34,7 @@ pub fn any<X, P: Predicate<X>>(list: &[X], predicate: &P) -> bool
 
 // Whether some element passes together with its index.
 pub fn any_indexed<X, P: IndexedPredicate<X>>(list: &[X], predicate: &P) -> bool
-    ensures { result ≡ some-indexed (P.IndexedPredicate.passes predicate.now) 0 list.now }
+    ensures { result ≡ some_indexed (P.IndexedPredicate.passes predicate.now) 0 list.now }
 {
     for (i, x) in list.iter().enumerate() {
         if predicate.test(i, x) {

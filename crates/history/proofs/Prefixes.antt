@@ -1,7 +1,7 @@
 -- The archive's bytes determine its leaves: no code of a part is the beginning of another code of it, piece by piece.
 use Rattle.std.proofs.Common.{◌≡◌, ℕ, zero, suc, ◌+◌, ◌%◌, ◌<◌, ◌≤◌, List, [], ◌∷◌, ◌++◌, length, take, drop, Some, None, Option, sym, refl, ap, ◌∙◌, subst, inl, inr, append_assoc, arith, take_at, drop_at}
 use mathlib.Core.List.{nil≢cons, cons≢nil}
-use Rattle.std.specs.List.{flat_map, AllByRecursion as All}
+use Rattle.std.specs.List.{flat_map, AllByRecursion}
 use Rattle.std.proofs.lemmas.Bool.{cases_eq, cases_lt}
 use Rattle.std.proofs.lemmas.Bool.Decides.{nat_tests}
 use Rattle.ledger.specs.Limits.{last_job}
@@ -62,7 +62,7 @@ module _ {V : Type 0} (bytes : V → List ℕ) (width : ℕ) (lawful : Lawful by
       let b = counted_free (write_bytes bytes) write_free x.writes y.writes s t a.1 in
       (λ i. record { job = job i; kind = kind i; reads = a.0 i; writes = b.0 i }, b.1)
 
-  leaves_apart : (xs ys : List (Leaf V)) → All (λ x. x.job ≤ last_job) xs → All (λ x. x.job ≤ last_job) ys → flat_map (leaf_bytes bytes) xs ≡ flat_map (leaf_bytes bytes) ys → xs ≡ ys
+  leaves_apart : (xs ys : List (Leaf V)) → AllByRecursion (λ x. x.job ≤ last_job) xs → AllByRecursion (λ x. x.job ≤ last_job) ys → flat_map (leaf_bytes bytes) xs ≡ flat_map (leaf_bytes bytes) ys → xs ≡ ys
   leaves_apart [] [] a b e = refl
   leaves_apart [] (y ∷ ys) a b e = absurd (nil≢cons e)
   leaves_apart (x ∷ xs) [] a b e = absurd (cons≢nil e)
@@ -95,11 +95,11 @@ module _ {V : Type 0} where
         | inr q ↦ (let o = job_of_leaf h k x e in let f = at (omega arith) (omega arith) in grind (arith, nat_tests))
       ]
 
-  rising_small : (k n : ℕ) (h : List (Leaf V)) → Serial h → All (λ x. x.job ≤ last_job) (rising k n h)
+  rising_small : (k n : ℕ) (h : List (Leaf V)) → Serial h → AllByRecursion (λ x. x.job ≤ last_job) (rising k n h)
   rising_small k zero h s = tt
   rising_small k (suc n) h s = go (leaf_of h k) refl (rising_small (suc k) n h s)
     where
-      go : (p : Option (Leaf V)) → leaf_of h k ≡ p → All (λ x. x.job ≤ last_job) (rising (suc k) n h) → All (λ x. x.job ≤ last_job) (with_first p (rising (suc k) n h))
+      go : (p : Option (Leaf V)) → leaf_of h k ≡ p → AllByRecursion (λ x. x.job ≤ last_job) (rising (suc k) n h) → AllByRecursion (λ x. x.job ≤ last_job) (with_first p (rising (suc k) n h))
       go None e r = r
       go (Some x) e r = ((fits_at h k x s e).small, r)
 
@@ -118,7 +118,7 @@ module _ {V : Type 0} where
       go None e = e
       go (Some x) e = let a = (fits_at h j x s e).small in let b = job_of_leaf h j x e in absurd (omega arith)
 
-  leaves_small : (h : List (Leaf V)) → Serial h → All (λ x. x.job ≤ last_job) (leaves h)
+  leaves_small : (h : List (Leaf V)) → Serial h → AllByRecursion (λ x. x.job ≤ last_job) (leaves h)
   unfolding leaves
   leaves_small h s = rising_small 0 (last_job + 1) h s
 

@@ -1,6 +1,6 @@
 -- Outlines and the order of conflicting jobs give back the leaves: who wrote a record before a job is decided job by job, and only conflicts matter.
 use Rattle.std.proofs.Common.{◌≡◌, ℕ, suc, ◌+◌, Bool, true, false, cond, eqb, List, [], ◌∷◌, map, is_some, Some, None, Option, sym, refl, ap, ◌∙◌, subst, arith}
-use Rattle.std.specs.List.{AllByRecursion as All}
+use Rattle.std.specs.List.{AllByRecursion}
 use Rattle.std.proofs.ByRecursion.{All-weaker}
 use Rattle.std.proofs.lemmas.Bool.{or_left, or_right, eq-eqb}
 use Rattle.bounded.specs.Searching.{any}
@@ -13,14 +13,14 @@ use Rattle.history.proofs.Searches.{any_first, any_rest, any_map}
 use Rattle.history.proofs.Counts.{below_same, wrote_if_any, writers_by_job}
 
 -- each element's record is one of the list's
-all_listed : {Q : Type 0} (number : Q → ℕ) (qs : List Q) → All (λ q. any (λ p. eqb (number p) (number q)) qs ≡ true) qs
+all_listed : {Q : Type 0} (number : Q → ℕ) (qs : List Q) → AllByRecursion (λ q. any (λ p. eqb (number p) (number q)) qs ≡ true) qs
 all_listed number [] = tt
 all_listed number (p ∷ qs) = (
   any_first (λ o. eqb (number o) (number p)) p qs (eq-eqb (number p) (number p) refl),
   All-weaker (λ q. any (λ o. eqb (number o) (number q)) qs ≡ true) (λ q. any (λ o. eqb (number o) (number q)) (p ∷ qs) ≡ true) (λ q e. any_rest (λ o. eqb (number o) (number q)) p qs e) qs (all_listed number qs),
 )
 
-reads_same : (f g : ℕ → ℕ) (ps qs : List Read) → map (λ (q : Read). q.«record») ps ≡ map (λ (q : Read). q.«record») qs → All (λ q. f q.«record» ≡ g q.«record») ps → All (λ q. q.version ≡ f q.«record») ps → All (λ q. q.version ≡ g q.«record») qs → ps ≡ qs
+reads_same : (f g : ℕ → ℕ) (ps qs : List Read) → map (λ (q : Read). q.«record») ps ≡ map (λ (q : Read). q.«record») qs → AllByRecursion (λ q. f q.«record» ≡ g q.«record») ps → AllByRecursion (λ q. q.version ≡ f q.«record») ps → AllByRecursion (λ q. q.version ≡ g q.«record») qs → ps ≡ qs
 reads_same f g [] [] e s a b = refl
 reads_same f g [] (q ∷ qs) e s a b = grind arith
 reads_same f g (p ∷ ps) [] e s a b = grind arith
@@ -30,7 +30,7 @@ reads_same f g (p ∷ ps) (q ∷ qs) e s a b =
     let rest : ps ≡ qs = reads_same f g ps qs (cc) s.1 a.1 b.1 in
     λ i. record { «record» = t i; version = v i } ∷ rest i
 
-writes_same : {V : Type 0} (f g : ℕ → ℕ) (ps qs : List (LeafWrite V)) → map {B = ℕ × V} (λ (w : LeafWrite V). (w.«record», w.value)) ps ≡ map {B = ℕ × V} (λ (w : LeafWrite V). (w.«record», w.value)) qs → All (λ w. f w.«record» ≡ g w.«record») ps → All (λ w. w.version ≡ suc (f w.«record»)) ps → All (λ w. w.version ≡ suc (g w.«record»)) qs → ps ≡ qs
+writes_same : {V : Type 0} (f g : ℕ → ℕ) (ps qs : List (LeafWrite V)) → map {B = ℕ × V} (λ (w : LeafWrite V). (w.«record», w.value)) ps ≡ map {B = ℕ × V} (λ (w : LeafWrite V). (w.«record», w.value)) qs → AllByRecursion (λ w. f w.«record» ≡ g w.«record») ps → AllByRecursion (λ w. w.version ≡ suc (f w.«record»)) ps → AllByRecursion (λ w. w.version ≡ suc (g w.«record»)) qs → ps ≡ qs
 writes_same {V} f g [] [] e s a b = refl
 writes_same {V} f g [] (q ∷ qs) e s a b = grind arith
 writes_same {V} f g (p ∷ ps) [] e s a b = grind arith

@@ -1,6 +1,6 @@
 -- Leaves, histories of them, and what makes a history serial; `src/lib.rt` and the archive's layout cite it. Assumes nothing.
 use Rattle.std.specs.Prelude.{◌≡◌, ℕ, suc, ◌+◌, ◌≤◌, Bool, true, cond, ◌||◌, List, [], ◌∷◌, map, is_some, Some, None, Option, ◌==◌, nat_eq}
-use Rattle.std.specs.List.{AllByRecursion as All}
+use Rattle.std.specs.List.{AllByRecursion}
 use Rattle.bounded.specs.Searching.{any}
 use Rattle.ledger.specs.Limits.{last_job}
 use Rattle.ledger.specs.declared.job.JobKind.{JobKind}
@@ -71,8 +71,8 @@ module _ {V : Type 0} where
   pub record Fits (x : Leaf V) (h : List (Leaf V)) : Type 0 where
     pub small : x.job ≤ last_job
     pub fresh : leaf_of h x.job ≡ None
-    pub read : All (λ q. q.version ≡ writer_count h q.«record») x.reads
-    pub written : All (λ w. w.version ≡ suc (writer_count h w.«record»)) x.writes
+    pub read : AllByRecursion (λ q. q.version ≡ writer_count h q.«record») x.reads
+    pub written : AllByRecursion (λ w. w.version ≡ suc (writer_count h w.«record»)) x.writes
 
   -- each job read and wrote as if the jobs had run one after another, in the order of their answers
   abbrev pub Serial : List (Leaf V) → Type 0

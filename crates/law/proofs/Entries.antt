@@ -1,7 +1,7 @@
 -- Lists of entries (a record with a version or a place), and the values that the shelf has at the places.
 -- each place is below n
 use Rattle.std.proofs.Common.{◌≡◌, ℕ, zero, suc, pred, ◌<◌, ◌≤◌, Bool, true, false, cond, not, ◌&&◌, eqb, leb, List, [], ◌∷◌, ◌++◌, map, length, Some, None, Option, sym, refl, ap, ◌∙◌, arith}
-use Rattle.std.specs.List.{slice_get, AllByRecursion as All}
+use Rattle.std.specs.List.{slice_get, AllByRecursion}
 use Rattle.std.proofs.lemmas.Bool.Decides.{nat_tests}
 use Rattle.std.proofs.ByRecursion.{All-weaker}
 use Rattle.bounded.specs.Searching.{any}
@@ -19,7 +19,7 @@ use Rattle.house.specs.Archiving.{leaf_write, leaf_writes}
 use Rattle.house.specs.Log.{contains, with_value, value_of}
 
 abbrev pub Within : ℕ → List Read → Type 0
-Within n xs = All (λ (x : Read). x.version < n) xs
+Within n xs = AllByRecursion (λ (x : Read). x.version < n) xs
 
 -- no record stands twice
 abbrev pub OnceEach : List Read → Type 0
@@ -70,7 +70,7 @@ contains_record [] r = refl
 contains_record (x ∷ xs) r = let i = contains_record xs r in grind (arith, nat_tests)
 
 -- what the look-up says holds of each entry
-pub each_read : (f : ℕ → ℕ) (xs : List Read) → OnceEach xs → ((r : ℕ) → 0 < first_unseen xs r → first_unseen xs r ≡ suc (f r)) → All (λ (q : Read). q.version ≡ f q.«record») xs
+pub each_read : (f : ℕ → ℕ) (xs : List Read) → OnceEach xs → ((r : ℕ) → 0 < first_unseen xs r → first_unseen xs r ≡ suc (f r)) → AllByRecursion (λ (q : Read). q.version ≡ f q.«record») xs
 each_read f [] u h = tt
 each_read f (x ∷ xs) u h = (let a = h x.«record» in grind arith, each_read f xs u.1 (λ r l. let a = h r in let z = u.0 in under r l a z (eqb x.«record» r) refl))
   where
@@ -78,7 +78,7 @@ each_read f (x ∷ xs) u h = (let a = h x.«record» in grind arith, each_read f
     under r l a z true e = absurd (let i : x.«record» ≡ r = grind arith in let y : first_unseen xs r ≡ 0 = rw i at z in omega arith)
     under r l a z false e = grind arith
 
-pub each_write : (g : ℕ → ℕ) (ws : List Write) → OnceEach (entries ws) → ((r : ℕ) → has_written ws r ≡ true → installed_version ws r ≡ g r) → All (λ (w : Write). w.version ≡ g w.«record») ws
+pub each_write : (g : ℕ → ℕ) (ws : List Write) → OnceEach (entries ws) → ((r : ℕ) → has_written ws r ≡ true → installed_version ws r ≡ g r) → AllByRecursion (λ (w : Write). w.version ≡ g w.«record») ws
 each_write g [] u h = tt
 each_write g (w ∷ ws) u h = (let a = h w.«record» in grind arith, each_write g ws u.1 (λ r l. let a = h r in under r l a (eqb w.«record» r) refl))
   where
@@ -89,7 +89,7 @@ each_write g (w ∷ ws) u h = (let a = h w.«record» in grind arith, each_write
     under r l a true e = absurd (let i : w.«record» ≡ r = grind arith in let y : has_written ws r ≡ false = rw i at z in grind arith)
     under r l a false e = grind arith
 
-pub reads_by_record : (g : ℕ → ℕ) (xs : List Read) → All (λ (q : Read). q.version ≡ g q.«record») xs → xs ≡ map {B = Read} (λ (r : ℕ). record { «record» = r; version = g r }) (records_of xs)
+pub reads_by_record : (g : ℕ → ℕ) (xs : List Read) → AllByRecursion (λ (q : Read). q.version ≡ g q.«record») xs → xs ≡ map {B = Read} (λ (r : ℕ). record { «record» = r; version = g r }) (records_of xs)
 reads_by_record g [] a = refl
 reads_by_record g (x ∷ xs) a = let i = reads_by_record g xs a.1 in λ k. record { «record» = x.«record»; version = a.0 k } ∷ i k
 
@@ -260,16 +260,16 @@ module _ {V : Type 0} where
       go (Some v) i = ap (λ l. (w.«record», v) ∷ l) i
 
   -- what holds of the writes of a row holds of the leaf's
-  pub all_leaf_writes : (P : ℕ → ℕ → Type 0) (vs : List V) (ws : List Write) → All (λ (w : Write). P w.«record» w.version) ws → All (λ (w : LeafWrite V). P w.«record» w.version) (leaf_writes vs ws)
+  pub all_leaf_writes : (P : ℕ → ℕ → Type 0) (vs : List V) (ws : List Write) → AllByRecursion (λ (w : Write). P w.«record» w.version) ws → AllByRecursion (λ (w : LeafWrite V). P w.«record» w.version) (leaf_writes vs ws)
   all_leaf_writes P vs [] a = tt
   all_leaf_writes P vs (w ∷ ws) a = go (slice_get vs w.place) (all_leaf_writes P vs ws a.1)
     where
-      go : (o : Option V) → All (λ (w : LeafWrite V). P w.«record» w.version) (leaf_writes vs ws) → All (λ (w : LeafWrite V). P w.«record» w.version) (with_first (leaf_write w o) (leaf_writes vs ws))
+      go : (o : Option V) → AllByRecursion (λ (w : LeafWrite V). P w.«record» w.version) (leaf_writes vs ws) → AllByRecursion (λ (w : LeafWrite V). P w.«record» w.version) (with_first (leaf_write w o) (leaf_writes vs ws))
       go None i = i
       go (Some v) i = (a.0, i)
 
   -- the leaf's writes, where the versions are a function of the record
-  pub leaf_writes_by_record : (g : ℕ → ℕ) (vs : List V) (ws : List Write) → All (λ (w : Write). w.version ≡ g w.«record») ws →
+  pub leaf_writes_by_record : (g : ℕ → ℕ) (vs : List V) (ws : List Write) → AllByRecursion (λ (w : Write). w.version ≡ g w.«record») ws →
       leaf_writes vs ws ≡ map {B = LeafWrite V} (λ (x : ℕ × V). record { «record» = x.0; version = g x.0; value = x.1 }) (valued vs (entries ws))
   leaf_writes_by_record g vs [] a = refl
   leaf_writes_by_record g vs (w ∷ ws) a = go (slice_get vs w.place) (leaf_writes_by_record g vs ws a.1)

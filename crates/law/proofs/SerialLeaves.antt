@@ -1,6 +1,6 @@
 -- The leaves of the answered jobs: they are serial, and their outlines and order are those of the log.
 use Rattle.std.proofs.Common.{◌≡◌, ℕ, suc, ◌+◌, ◌<◌, Bool, true, false, cond, ◌||◌, eqb, ◌≢◌, ◌↔◌, List, [], ◌∷◌, map, is_some, Some, None, Option, sym, refl, ap, ◌∙◌, subst, inl, inr, arith}
-use Rattle.std.specs.List.{AllByRecursion as All}
+use Rattle.std.specs.List.{AllByRecursion}
 use Rattle.std.proofs.ByRecursion.{All-weaker}
 use Rattle.std.proofs.lemmas.Bool.{eqb-true, eq-eqb, ne_eqb}
 use Rattle.bounded.specs.Searching.{any}
@@ -42,7 +42,7 @@ contained [] j i = absurd i
 contained (x ∷ js) j (inl e) = any_first (λ y. eqb y j) x js (eq-eqb x j (sym e))
 contained (x ∷ js) j (inr i) = any_rest (λ y. eqb y j) x js (contained js j i)
 
-not_contained : (js : List ℕ) (j : ℕ) → All (λ x. j ≢ x) js → contains js j ≡ false
+not_contained : (js : List ℕ) (j : ℕ) → AllByRecursion (λ x. j ≢ x) js → contains js j ≡ false
 not_contained [] j a = refl
 not_contained (x ∷ js) j a = let i = not_contained js j a.1 in let n : eqb x j ≡ false = ne_eqb x j (λ e. a.0 (sym e)) in rw (n, i) refl
 
@@ -125,7 +125,7 @@ module _ {V : Type 0} where
     leaf_count [] r = refl
     leaf_count (j ∷ js) r = counts_same (histories.wrote (job_leaf m j) r) (has_written (row l j).writes r) (writer_count (map (job_leaf m) js) r) (writers l js r) (leaf_wrote j r ∙ row_wrote j r) (leaf_count js r)
 
-    serial_jobs : (js : List ℕ) → InSeries l js → Different js → All (λ j. j < last_job + 1) js → Serial (map (job_leaf m) js)
+    serial_jobs : (js : List ℕ) → InSeries l js → Different js → AllByRecursion (λ j. j < last_job + 1) js → Serial (map (job_leaf m) js)
     serial_jobs [] s d b = tt
     serial_jobs (j ∷ js) s d b = (
       record {

@@ -1,7 +1,7 @@
 -- What ties the log of a run to the house that it led to, and how an accepted call of the ledger keeps it.
 use Rattle.std.proofs.Common.{◌≡◌, ℕ, zero, suc, pred, ◌<◌, ◌≤◌, Bool, true, false, cond, eqb, List, ◌∷◌, length, get_or, Some, None, Ok, Option, Result, sym, refl, ap, ◌∙◌, subst, arith}
 use Rattle.std.specs.Option.{ok_or}
-use Rattle.std.specs.List.{slice_get, AllByRecursion as All}
+use Rattle.std.specs.List.{slice_get, AllByRecursion}
 use Rattle.std.proofs.lemmas.Nat.{mod_below}
 use Rattle.std.proofs.ByRecursion.{All-weaker}
 use Rattle.ledger.specs.Limits.{most_offices}
@@ -58,7 +58,7 @@ module _ {V : Type 0} where
     pub writes : (j : ℕ) → valued p.house.items (entries (row p.house.ledger j).writes) ≡ writes_in p.log j
     pub kinds : (j : ℕ) → (row p.house.ledger j).kind ≡ kind_in p.log j
     pub answers : p.house.ledger.answered ≡ answered_in p.log
-    pub told : All (ToldAsListed p.house.ledger p.house.items) p.log
+    pub told : AllByRecursion (ToldAsListed p.house.ledger p.house.items) p.log
 
   not_read : (j r : ℕ) (x : Occurrence V) → x ≡ nothing → x ≡ read j r → ⊥
   not_read j r x p q = let e : ◌≡◌ {A = Occurrence V} nothing (read j r) = sym p ∙ q in grind arith

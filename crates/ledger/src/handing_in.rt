@@ -1,7 +1,7 @@
 // Hand in: a prepare goes to every office of a listed record, and the vote begins.
 ghost use Rattle.std.specs.Prelude.{◌≡◌, ◌%◌, ◌&&◌, ◌||◌, if◌then◌else◌, ◌==◌, nat_eq};
 ghost use Rattle.bounded.specs.Searching.{any as some};
-ghost use Rattle.ledger.specs.Delivering.{is_concerned as concerned, prepare_waits, prepares as prepares-of, handed_in, is_empty, hand_in_fault, hand_in_done};
+ghost use Rattle.ledger.specs.Delivering.{is_concerned as concerned, prepare_waits, prepares as prepares_of, handed_in, is_empty, hand_in_fault, hand_in_done};
 ghost use Rattle.ledger.specs.Faults.{told, guarded};
 ghost use Rattle.ledger.specs.Model.{idle};
 ghost use Rattle.ledger.specs.View.{view, row_view, office_count, office_of};
@@ -62,7 +62,7 @@ fn first_exchange(row: &Row, offices: Offices, office: u8) -> Exchange
 }
 
 fn prepares(row: &Row, offices: Offices) -> [Exchange; MOST_OFFICES]
-    ensures { result ≡ prepares-of (λ n. n % offices.count) (row_view row.now) }
+    ensures { result ≡ prepares_of (λ n. n % offices.count) (row_view row.now) }
 {
     let mut exchanges = [Exchange::idle(); MOST_OFFICES];
     for office in 0..MOST_OFFICES {

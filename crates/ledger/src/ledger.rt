@@ -1,7 +1,7 @@
 // The ledger's tables. Nothing in them grows: no call allocates, so none can fail for want of memory.
 ghost use Rattle.std.specs.Prelude.{◌≡◌};
 ghost use Rattle.ledger.specs.Limits.{offices_built};
-ghost use Rattle.ledger.specs.Model.{unused as unused-row, new_ledger};
+ghost use Rattle.ledger.specs.Model.{unused as unused_row, new_ledger};
 ghost use Rattle.ledger.specs.View.{view, row_view, office_count};
 
 use crate::job::{JobKind, Read, Row, State, Version, Write};
@@ -23,7 +23,7 @@ pub struct Ledger {
 
 // The row of a job number that no call has taken.
 pub(crate) fn unused() -> Row
-    ensures { row_view result ≡ unused-row }
+    ensures { row_view result ≡ unused_row }
 {
     Row {
         kind: JobKind::Amendment,

@@ -1,6 +1,6 @@
 // What passes between a job and an office: two-phase commit.
 ghost use Rattle.std.specs.Prelude.{◌≡◌};
-ghost use Rattle.ledger.specs.Model.{idle as idle-exchange};
+ghost use Rattle.ledger.specs.Model.{idle as idle_exchange};
 
 use crate::job::Mark;
 
@@ -37,7 +37,7 @@ pub struct Exchange {
 impl Exchange {
     // Nothing waits, and no vote stands.
     pub(crate) fn idle() -> Exchange
-        ensures { result ≡ idle-exchange }
+        ensures { result ≡ idle_exchange }
     {
         Exchange {
             waiting: None,

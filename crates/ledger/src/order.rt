@@ -1,7 +1,7 @@
 // The order among jobs that their readings and writes set, and who holds a job back by it.
 ghost use Rattle.std.specs.Prelude.{◌≡◌, not, ◌&&◌, ◌||◌, ◌==◌, nat_le, nat_lt};
 ghost use Rattle.bounded.specs.Searching.{any as some};
-ghost use Rattle.ledger.specs.Answering.{is_held, is_pending as pending, precedes as preceding, precedes_in as preceding-in};
+ghost use Rattle.ledger.specs.Answering.{is_held, is_pending as pending, precedes as preceding, precedes_in as preceding_in};
 ghost use Rattle.ledger.specs.Model.{first_unseen};
 ghost use Rattle.ledger.specs.View.{view, row_view};
 
@@ -33,7 +33,7 @@ fn has_read_below(reads: &[Read], record: u8, version: u8) -> bool
 // Whether the first job precedes the later one in a record: the later one saw or overwrote the version that the first installed,
 // or overwrote the version that the first read.
 fn precedes_in(first: &Row, later: &Row, record: u8) -> bool
-    ensures { result ≡ preceding-in (row_view first.now) (row_view later.now) «record» }
+    ensures { result ≡ preceding_in (row_view first.now) (row_view later.now) «record» }
 {
     let first_installed = installed_version(first.writes.as_slice(), record);
     let later_installed = installed_version(later.writes.as_slice(), record);
@@ -51,7 +51,7 @@ pub struct PrecedesIn<'a> {
 }
 
 impl Predicate<Read> for PrecedesIn<'_> {
-    ghost passes = { λ p x. preceding-in (row_view p.first.now) (row_view p.later.now) x.«record» };
+    ghost passes = { λ p x. preceding_in (row_view p.first.now) (row_view p.later.now) x.«record» };
 
     fn test(&self, x: &Read) -> bool {
         precedes_in(self.first, self.later, x.record)
@@ -59,7 +59,7 @@ impl Predicate<Read> for PrecedesIn<'_> {
 }
 
 impl Predicate<Write> for PrecedesIn<'_> {
-    ghost passes = { λ p x. preceding-in (row_view p.first.now) (row_view p.later.now) x.«record» };
+    ghost passes = { λ p x. preceding_in (row_view p.first.now) (row_view p.later.now) x.«record» };
 
     fn test(&self, x: &Write) -> bool {
         precedes_in(self.first, self.later, x.record)
@@ -68,21 +68,21 @@ impl Predicate<Write> for PrecedesIn<'_> {
 
 // Whether the first job precedes the later one in the record of some write.
 fn precedes_in_writes<'a>(writes: &[Write], first: &'a Row, later: &'a Row) -> bool
-    ensures { result ≡ some (λ x. preceding-in (row_view first.now) (row_view later.now) x.«record») writes.now }
+    ensures { result ≡ some (λ x. preceding_in (row_view first.now) (row_view later.now) x.«record») writes.now }
 {
     any(writes, &PrecedesIn { first, later })
 }
 
 // Whether the first job precedes the later one in the record of some read.
 fn precedes_in_reads<'a>(reads: &[Read], first: &'a Row, later: &'a Row) -> bool
-    ensures { result ≡ some (λ x. preceding-in (row_view first.now) (row_view later.now) x.«record») reads.now }
+    ensures { result ≡ some (λ x. preceding_in (row_view first.now) (row_view later.now) x.«record») reads.now }
 {
     any(reads, &PrecedesIn { first, later })
 }
 
 // Whether the first job precedes the later one in some record that a job lists.
 fn precedes_in_lists(listing: &Row, first: &Row, later: &Row) -> bool
-    ensures { result ≡ some (λ x. preceding-in (row_view first.now) (row_view later.now) x.«record») (row_view listing.now).writes || some (λ x. preceding-in (row_view first.now) (row_view later.now) x.«record») (row_view listing.now).reads }
+    ensures { result ≡ some (λ x. preceding_in (row_view first.now) (row_view later.now) x.«record») (row_view listing.now).writes || some (λ x. preceding_in (row_view first.now) (row_view later.now) x.«record») (row_view listing.now).reads }
 {
     precedes_in_writes(listing.writes.as_slice(), first, later)
         || precedes_in_reads(listing.reads.as_slice(), first, later)

@@ -3,7 +3,7 @@ ghost use Rattle.std.specs.Prelude.{◌≡◌, ◌%◌, ◌<◌, not, ◌&&◌, 
 ghost use Rattle.bounded.specs.Elements.{elements};
 ghost use Rattle.ledger.specs.Delivering.{is_yes as yes, holds as holding, with_exchange, vote_waits, conflicts as conflicting, has_conflict, is_stale, is_full, vote_of};
 ghost use Rattle.ledger.specs.Limits.{most_versions};
-ghost use Rattle.ledger.specs.Model.{row as row_of, versions, exchange as exchange-of, put_row, has_written, is_listed as listed};
+ghost use Rattle.ledger.specs.Model.{row as row_of, versions, exchange as exchange_of, put_row, has_written, is_listed as listed};
 ghost use Rattle.ledger.specs.View.{view, row_view, office_count, office_of};
 
 use crate::job::{Mark, Read, Row, Write};
@@ -34,7 +34,7 @@ fn is_yes(vote: Option<Vote>) -> bool
 
 // Whether the office holds the job's records.
 fn holds(row: &Row, office: u8) -> bool
-    ensures { result ≡ holding (exchange-of (row_view row.now) office) }
+    ensures { result ≡ holding (exchange_of (row_view row.now) office) }
 {
     let exchanges = &row.exchanges[..];
     (office as usize) < exchanges.len() && is_yes(exchanges[office as usize].vote)

@@ -3,7 +3,7 @@ ghost use Rattle.std.specs.Prelude.{◌≡◌, ◌<◌, ◌≤◌, map, length, 
 ghost use Rattle.ledger.specs.Faults.{told, refuse_if};
 ghost use Rattle.ledger.specs.Limits.{most_listed};
 ghost use Rattle.ledger.specs.Model.{row as row_of, no_row, is_answered, is_never_opened, is_open};
-ghost use Rattle.ledger.specs.Reading.{newest as newest-of, newest_answered, is_new_read as is-new, read_fault, read_source, version_source, with_read, read_done, open_checked};
+ghost use Rattle.ledger.specs.Reading.{newest as newest_of, newest_answered, is_new_read as is_new, read_fault, read_source, version_source, with_read, read_done, open_checked};
 ghost use Rattle.ledger.specs.View.{view, row_view, office_count};
 ghost use Rattle.ledger.specs.declared.fault.LedgerFault.TheVariants as fault;
 
@@ -44,7 +44,7 @@ impl Predicate<Version> for IsAnswered<'_> {
 
 // A first reading: the job has neither read nor written the record.
 fn is_new_read(row: &Row, record: u8) -> bool
-    ensures { result ≡ is-new (row_view row.now) «record» }
+    ensures { result ≡ is_new (row_view row.now) «record» }
 {
     listed_version(row.reads.as_slice(), record).is_none()
         && !is_written(row.writes.as_slice(), record)
@@ -86,7 +86,7 @@ impl Ledger {
     // The version that a first reading is told: an inspection sees answered jobs only.
     fn newest(&self, row: &Row, record: u8) -> u8
         requires { «record» < 64 }
-        ensures { result ≡ newest-of (view self.now) (row_view row.now) «record» }
+        ensures { result ≡ newest_of (view self.now) (row_view row.now) «record» }
     {
         match row.kind {
             JobKind::Amendment => self.version_count(record),
@@ -142,7 +142,7 @@ impl Ledger {
     // The version that a read lists, if it is a first reading.
     fn first_reading(&self, job: u8, record: u8) -> Option<u8>
         requires { «record» < 64 }
-        ensures { result ≡ (if is-new (row_of (view self.now) job) «record» then Some (newest-of (view self.now) (row_of (view self.now) job) «record») else None) }
+        ensures { result ≡ (if is_new (row_of (view self.now) job) «record» then Some (newest_of (view self.now) (row_of (view self.now) job) «record») else None) }
     {
         let row = &self.rows[job as usize];
         if is_new_read(row, record) {

@@ -1,6 +1,6 @@
 // Votes: each is noted, and the last one decides the job.
 ghost use Rattle.std.specs.Prelude.{◌≡◌, ◌<◌, map};
-ghost use Rattle.ledger.specs.Delivering.{refusal as refusal-of, first_refusal as first-refusal-of, decided_state as decided-state-of, outcome as outcome-of, decision_waits, decided, with_exchange, vote_noted, counted};
+ghost use Rattle.ledger.specs.Delivering.{refusal as refusal_of, first_refusal as first_refusal_of, decided_state as decided_state_of, outcome as outcome_of, decision_waits, decided, with_exchange, vote_noted, counted};
 ghost use Rattle.ledger.specs.Model.{row as row_of, put_row};
 ghost use Rattle.ledger.specs.View.{view, row_view, office_count};
 
@@ -11,7 +11,7 @@ use crate::message::{Exchange, Message, Outcome, Vote};
 use crate::waiting::any_waits;
 
 fn refusal(vote: Option<Vote>) -> Option<Mark>
-    ensures { result ≡ refusal-of vote }
+    ensures { result ≡ refusal_of vote }
 {
     match vote {
         Some(Vote::Refused(mark)) => Some(mark),
@@ -21,7 +21,7 @@ fn refusal(vote: Option<Vote>) -> Option<Mark>
 
 // The mark of the lowest-numbered office that refused.
 fn first_refusal(exchanges: &[Exchange]) -> Option<Mark>
-    ensures { result ≡ first-refusal-of exchanges.now }
+    ensures { result ≡ first_refusal_of exchanges.now }
 {
     for exchange in exchanges {
         if let Some(mark) = refusal(exchange.vote) {
@@ -32,7 +32,7 @@ fn first_refusal(exchanges: &[Exchange]) -> Option<Mark>
 }
 
 fn decided_state(refusal: Option<Mark>) -> State
-    ensures { result ≡ decided-state-of refusal }
+    ensures { result ≡ decided_state_of refusal }
 {
     match refusal {
         None => State::Accepted,
@@ -41,7 +41,7 @@ fn decided_state(refusal: Option<Mark>) -> State
 }
 
 fn outcome(refusal: Option<Mark>) -> Outcome
-    ensures { result ≡ outcome-of refusal }
+    ensures { result ≡ outcome_of refusal }
 {
     match refusal {
         None => Outcome::Commit,
@@ -72,7 +72,7 @@ fn send_decision(exchanges: &mut [Exchange; MOST_OFFICES], outcome: Outcome)
 
 // A row's step at the last vote.
 fn decide(row: &mut Row)
-    ensures { row_view row.new ≡ decided (first-refusal-of (row_view row.old).exchanges) (row_view row.old) }
+    ensures { row_view row.new ≡ decided (first_refusal_of (row_view row.old).exchanges) (row_view row.old) }
 {
     let refusal = first_refusal(&row.exchanges[..]);
     send_decision(&mut row.exchanges, outcome(refusal));

@@ -1,7 +1,7 @@
 -- An answer is one move, if nothing holds the job back; the end of a dropped job is none.
 use Rattle.std.proofs.Common.{◌≡◌, ℕ, ◌+◌, ◌<◌, ◌≤◌, Bool, true, false, cond, not, ◌&&◌, ◌||◌, eqb, ltb, leb, ◌≢◌, ◌⊎◌, List, ◌∷◌, length, None, sym, refl, ap, ◌∙◌, subst, inl, inr, true≢false, zero-add, arith}
 use native.Mathlib.Decide.{dec_le}
-use Rattle.std.specs.List.{AllByRecursion as All}
+use Rattle.std.specs.List.{AllByRecursion}
 use Rattle.std.proofs.ByRecursion.{All-weaker}
 use Rattle.std.proofs.lemmas.Bool.{cases_lt, eqb-false, ne_eqb, or_parts, or_cases, lt-ltb, cond-true}
 use Rattle.bounded.specs.Searching.{any}
@@ -107,9 +107,9 @@ module _ {office : ℕ → ℕ} {ledger : LedgerModel} {q : List ℕ} (M : Match
           absurd (f k r.0 (eqb-false k t m.0) (pending k m.1) (before k r.0 r.1))
 
   -- the answered jobs are different, and each has a row
-  pub answered_rows : All (λ j. (row ledger j).state ≡ Answered) ledger.answered
+  pub answered_rows : AllByRecursion (λ j. (row ledger j).state ≡ Answered) ledger.answered
   answered_rows =
-      subst (All (λ j. (row ledger j).state ≡ Answered)) M.answers_are
+      subst (AllByRecursion (λ j. (row ledger j).state ≡ Answered)) M.answers_are
       (All-weaker (λ j. M.machine.phase j ≡ machine.answered) (λ j. (row ledger j).state ≡ Answered) (λ j p. grind (arith, (M.rows.each j).phase_is)) (jobs M.machine.answers)
       (jobs_answered M.machine M.machine.answers (all_kept office M.machine M.run).kept))
 

@@ -1,42 +1,42 @@
 -- Lists of jobs: what holds of each pair, one more at the end, all but one, and how long a list without repetition may be.
 use Rattle.std.proofs.Common.{◌≡◌, ℕ, zero, suc, ◌<◌, ◌≤◌, Bool, true, false, cond, eqb, ◌≢◌, ◌⊎◌, List, [], ◌∷◌, ◌++◌, length, refl, ap, inl, inr, arith}
-use Rattle.std.specs.List.{AllByRecursion as All}
+use Rattle.std.specs.List.{AllByRecursion}
 use Rattle.std.proofs.ByRecursion.{All-weaker, All-push}
 use Rattle.protocol.specs.Calls.{without}
 
 abbrev pub Pairwise : (ℕ → ℕ → Type 0) → List ℕ → Type 0
 Pairwise R [] = Unit {0}
-Pairwise R (x ∷ q) = All (R x) q × Pairwise R q
+Pairwise R (x ∷ q) = AllByRecursion (R x) q × Pairwise R q
 
 abbrev pub Among : ℕ → List ℕ → Type 0
 Among t [] = ⊥
 Among t (x ∷ q) = (t ≡ x) ⊎ Among t q
 
 module _ (P : ℕ → Type 0) where
-  pub all_at : (q : List ℕ) (t : ℕ) → All P q → Among t q → P t
+  pub all_at : (q : List ℕ) (t : ℕ) → AllByRecursion P q → Among t q → P t
   all_at [] t a m = absurd m
   all_at (x ∷ q) t a (inl e) = rw e a.0
   all_at (x ∷ q) t a (inr m) = all_at q t a.1 m
 
   -- of those that stay, what may fail at j alone
-  pub all_without : (j : ℕ) (q : List ℕ) → All (λ x. x ≢ j → P x) q → All P (without j q)
+  pub all_without : (j : ℕ) (q : List ℕ) → AllByRecursion (λ x. x ≢ j → P x) q → AllByRecursion P (without j q)
   all_without j [] a = tt
   all_without j (x ∷ q) a = go (eqb x j) (λ e. a.0 (grind arith)) (all_without j q a.1)
     where
-      go : (b : Bool) → (b ≡ false → P x) → All P (without j q) → All P (cond b (without j q) (x ∷ without j q))
+      go : (b : Bool) → (b ≡ false → P x) → AllByRecursion P (without j q) → AllByRecursion P (cond b (without j q) (x ∷ without j q))
       go true p r = r
       go false p r = (p refl, r)
 
 module _ (R : ℕ → ℕ → Type 0) where
-  pub pairwise_weaker : (P : ℕ → Type 0) (S : ℕ → ℕ → Type 0) → ((t u : ℕ) → P t → P u → R t u → S t u) → (q : List ℕ) → All P q → Pairwise R q → Pairwise S q
+  pub pairwise_weaker : (P : ℕ → Type 0) (S : ℕ → ℕ → Type 0) → ((t u : ℕ) → P t → P u → R t u → S t u) → (q : List ℕ) → AllByRecursion P q → Pairwise R q → Pairwise S q
   pairwise_weaker P S f [] a o = tt
   pairwise_weaker P S f (x ∷ q) a o = (first q a.1 o.0, pairwise_weaker P S f q a.1 o.1)
     where
-      first : (q : List ℕ) → All P q → All (R x) q → All (S x) q
+      first : (q : List ℕ) → AllByRecursion P q → AllByRecursion (R x) q → AllByRecursion (S x) q
       first [] b s = tt
       first (y ∷ q) b s = (f x y a.0 b.0 s.0, first q b.1 s.1)
 
-  pub pairwise_push : (q : List ℕ) (j : ℕ) → Pairwise R q → All (λ t. R t j) q → Pairwise R (q ++ j ∷ [])
+  pub pairwise_push : (q : List ℕ) (j : ℕ) → Pairwise R q → AllByRecursion (λ t. R t j) q → Pairwise R (q ++ j ∷ [])
   pairwise_push [] j o a = (tt, tt)
   pairwise_push (x ∷ q) j o a = (All-push (R x) q j o.0 a.0, pairwise_push q j o.1 a.1)
 
@@ -65,7 +65,7 @@ among_without (x ∷ q) j t n m = go (eqb x j) refl m (among_without q j t n)
     go false e (inl p) f = inl p
     go false e (inr p) f = inr (f p)
 
-pub without_absent : (j : ℕ) (q : List ℕ) → All (λ t. t ≢ j) q → without j q ≡ q
+pub without_absent : (j : ℕ) (q : List ℕ) → AllByRecursion (λ t. t ≢ j) q → without j q ≡ q
 without_absent j [] a = refl
 without_absent j (t ∷ q) a = let i = without_absent j q a.1 in let n = a.0 in grind arith
 
@@ -84,7 +84,7 @@ length_without j (x ∷ q) d = go (eqb x j) refl (length_without j q d.1)
         omega (arith, ap length k)
     go false e i = omega arith
 
-pub different_few : (n : ℕ) (q : List ℕ) → All (λ x. x < n) q → Different q → length q ≤ n
+pub different_few : (n : ℕ) (q : List ℕ) → AllByRecursion (λ x. x < n) q → Different q → length q ≤ n
 different_few zero [] a d = omega arith
 different_few zero (x ∷ q) a d = absurd (let l = a.0 in omega arith)
 different_few (suc n) q a d =

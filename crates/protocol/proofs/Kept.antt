@@ -1,6 +1,6 @@
 -- An answered job stays what its answer says, and is answered once: so the answers speak of the rows.
 use Rattle.std.proofs.Common.{◌≡◌, ℕ, ◌≢◌, List, [], ◌∷◌, sym, refl, ap, ◌∙◌, subst, inl, inr, arith}
-use Rattle.std.specs.List.{AllByRecursion as All}
+use Rattle.std.specs.List.{AllByRecursion}
 use Rattle.std.proofs.ByRecursion.{All-weaker}
 use Rattle.std.proofs.lemmas.Bool.{cases_eq}
 use Rattle.protocol.proofs.Machine.{answered, Answer, Machine, with_answered, Move, opens, opens_inspection, reads_newest, reads_answered, writes, hands_in, withdraws, votes_yes, accepts, drops, installs, releases, answers, closes, Run, start, then}
@@ -17,12 +17,12 @@ jobs [] = []
 jobs (a ∷ older) = a.job ∷ jobs older
 
 pub record AllKept (h : Machine) : Type 0 where
-  pub kept : All (Kept h) h.answers
+  pub kept : AllByRecursion (Kept h) h.answers
   pub different : Different (jobs h.answers)
   -- each answered job is among the answers
   pub listed : (j : ℕ) → h.phase j ≡ answered → Among j (jobs h.answers)
 
-pub jobs_answered : (h : Machine) (answers : List Answer) → All (Kept h) answers → All (λ j. h.phase j ≡ answered) (jobs answers)
+pub jobs_answered : (h : Machine) (answers : List Answer) → AllByRecursion (Kept h) answers → AllByRecursion (λ j. h.phase j ≡ answered) (jobs answers)
 jobs_answered h [] k = tt
 jobs_answered h (a ∷ older) k = (k.0.is_answered, jobs_answered h older k.1)
 
@@ -30,7 +30,7 @@ jobs_answered h (a ∷ older) k = (k.0.is_answered, jobs_answered h older k.1)
 same_answers : (h h' : Machine) → AllKept h → h'.answers ≡ h.answers → ((a : Answer) → Kept h a → Kept h' a) → ((j : ℕ) → h'.phase j ≡ answered → h.phase j ≡ answered) → AllKept h'
 same_answers h h' k e f g =
     record {
-      kept = subst (All (Kept h')) (sym e) (All-weaker (Kept h) (Kept h') f h.answers k.kept);
+      kept = subst (AllByRecursion (Kept h')) (sym e) (All-weaker (Kept h) (Kept h') f h.answers k.kept);
       different = rw e k.different;
       listed = λ j a. rw e (k.listed j (g j a));
     }

@@ -1,7 +1,7 @@
 -- The line: a job that was decided later never precedes one that was decided earlier.
 -- u, decided after t, does not precede it, and lists no record that is still held for t to install
 use Rattle.std.proofs.Common.{◌≡◌, ℕ, true, ◌≢◌, refl, arith}
-use Rattle.std.specs.List.{AllByRecursion as All}
+use Rattle.std.specs.List.{AllByRecursion}
 use Rattle.std.proofs.ByRecursion.{All-weaker, All-push}
 use Rattle.protocol.proofs.Machine.{voting, accepted, Machine, updated, Precedes, Lists, with_accepted, with_answered, Move, opens, opens_inspection, reads_newest, reads_answered, writes, hands_in, withdraws, votes_yes, accepts, drops, installs, releases, answers, closes}
 use Rattle.protocol.proofs.JobLists.{Pairwise, Among, all_without, pairwise_weaker, pairwise_push, pairwise_without, among_push, among_without}
@@ -11,7 +11,7 @@ abbrev pub Later : (ℕ → ℕ) → Machine → ℕ → ℕ → Type 0
 Later office h t u = (r : ℕ) → (Precedes h u t r → ⊥) × (h.holds t (office r) ≡ true → h.wrote t r ≡ true → Lists h u r → ⊥)
 
 pub record LineInvariant (office : ℕ → ℕ) (h : Machine) : Type 0 where
-  pub only_accepted : All (λ t. h.phase t ≡ accepted) h.line
+  pub only_accepted : AllByRecursion (λ t. h.phase t ≡ accepted) h.line
   pub complete : (t : ℕ) → h.phase t ≡ accepted → Among t h.line
   pub in_order : Pairwise (Later office h) h.line
 

@@ -1,6 +1,6 @@
 -- What every run of the ledger keeps, from the machine's invariants.
 use Rattle.std.proofs.Common.{◌≡◌, ℕ, suc, ◌<◌, ◌≤◌, true, false, List, [], ◌∷◌, Some, None, Option, sym, refl, ap, ◌∙◌, subst, inl, inr, arith}
-use Rattle.std.specs.List.{AllByRecursion as All}
+use Rattle.std.specs.List.{AllByRecursion}
 use Rattle.std.proofs.ByRecursion.{All-weaker}
 use Rattle.std.proofs.lemmas.Bool.{cases_lt}
 use Rattle.bounded.specs.Searching.{any}
@@ -49,14 +49,14 @@ answers_have_room offices office most few l q r j (inr f) = room_to_answer (reac
 
 module _ {office : ℕ → ℕ} {l : LedgerModel} {q : List ℕ} (M : Matched office l q) where
   -- what the answers say is in the rows
-  writers_are : (answers : List Answer) → All (Kept M.machine) answers → (r : ℕ) → writers l (jobs answers) r ≡ answered_writers answers r
+  writers_are : (answers : List Answer) → AllByRecursion (Kept M.machine) answers → (r : ℕ) → writers l (jobs answers) r ≡ answered_writers answers r
   writers_are [] k r = refl
   writers_are (a ∷ older) k r =
       let i = writers_are older k.1 r in
       let e : has_written (row l a.job).writes r ≡ a.wrote r = sym ((M.rows.each a.job).wrote_is r) ∙ k.0.same_wrote r in
       cc
 
-  in_series : (answers : List Answer) → All (Kept M.machine) answers → Series answers → InSeries l (jobs answers)
+  in_series : (answers : List Answer) → AllByRecursion (Kept M.machine) answers → Series answers → InSeries l (jobs answers)
   in_series [] k s = tt
   in_series (a ∷ older) k s = (λ r. (installed r, read r), in_series older k.1 s.1)
     where
@@ -79,9 +79,9 @@ module _ {office : ℕ → ℕ} {l : LedgerModel} {q : List ℕ} (M : Matched of
   pub accepted_in_line : (j : ℕ) → (row l j).state ≡ Accepted → Among j q
   accepted_in_line j a = rw M.line_is at ((sound office M.machine M.run).line.complete j (grind (arith, (M.rows.each j).phase_is)))
 
-  pub line_accepted : All (λ j. (row l j).state ≡ Accepted) q
+  pub line_accepted : AllByRecursion (λ j. (row l j).state ≡ Accepted) q
   line_accepted =
-      subst (All (λ j. (row l j).state ≡ Accepted)) M.line_is
+      subst (AllByRecursion (λ j. (row l j).state ≡ Accepted)) M.line_is
       (All-weaker (λ j. M.machine.phase j ≡ machine.accepted) (λ j. (row l j).state ≡ Accepted) (λ j p. grind (arith, (M.rows.each j).phase_is)) M.machine.line
       (sound office M.machine M.run).line.only_accepted)
 
