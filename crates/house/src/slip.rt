@@ -1,5 +1,5 @@
 // Slips: an inspection held by a token inside a program.
-ghost use Rattle.std.specs.Prelude.{◌≡◌};
+ghost use Rattle.std.specs.Prelude.{◌≡◌, true};
 ghost use Rattle.house.specs.Calls.{open_told, open_after, read_told, read_after};
 ghost use Rattle.house.specs.Committing.{close_told, close_after};
 ghost use Rattle.house.specs.Faults.{kept};
@@ -14,16 +14,18 @@ use ledger::job::JobKind;
 use shelves::shelf::Shelf;
 
 // The token of an inspection: opening gives it, reading uses it, closing spends it.
-// It cannot be let go in any other way: its `drop` asks for what nobody can show, so the check refuses a program that leaves one over.
+// It cannot be let go in any other way: its `drop` asks that it is spent, and no slip that a program holds is, so the check refuses a program that leaves one over.
 pub struct Slip {
     job: u64,
+    // whether the inspection was closed by this slip; only `spend` sets it, and then the slip is gone
+    spent: bool,
 }
 
 impl Drop for Slip {
     fn drop(self)
-        requires { ⊥ }
+        requires { self.spent ≡ true }
     {
-        let Slip { job: _ } = self;
+        let Slip { job: _, spent: _ } = self;
     }
 }
 
@@ -35,11 +37,12 @@ impl Slip {
         self.job
     }
 
-    // Takes the slip apart, so that there is nothing left to let go.
-    fn spend(self) -> u64
+    // Spends the slip, so that it may be let go.
+    fn spend(mut self) -> u64
         ensures { result ≡ self.job }
     {
-        let Slip { job } = self;
+        let job = self.job;
+        self.spent = true;
         job
     }
 }
@@ -52,7 +55,7 @@ impl<S: Shelf> House<S> {
         ensures shelf { self.new.shelf ≡ self.old.shelf }
     {
         self.open(job, JobKind::Inspection)?;
-        Ok(Slip { job })
+        Ok(Slip { job, spent: false })
     }
 
     // Reads by a slip: the same as a read by its job number.
