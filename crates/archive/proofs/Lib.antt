@@ -1,3 +1,0 @@
-pub mod Writes
-pub mod RowLeaves
-pub mod Outputs
