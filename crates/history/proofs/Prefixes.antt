@@ -4,11 +4,12 @@ use mathlib.Core.List.{nil≢cons, cons≢nil}
 use Rattle.std.specs.List.{flat_map, AllByRecursion}
 use Rattle.std.proofs.lemmas.Bool.{cases_eq, cases_lt}
 use Rattle.std.proofs.lemmas.Bool.Decides.{nat_tests}
+use Rattle.encoding.specs.Frames.{counted}
 use Rattle.ledger.specs.Limits.{last_job}
 use Rattle.ledger.specs.declared.job.JobKind.{JobKind}
 use Rattle.ledger.specs.declared.job.JobKind.TheVariants.{Amendment, Inspection}
 use Rattle.history.specs.Histories.{Leaf, leaf_of, Serial}
-use Rattle.history.specs.Layout.{leaf_frame, counted, read_bytes, write_bytes, leaf_bytes, with_first, rising, leaves, head_bytes, archive}
+use Rattle.history.specs.Layout.{leaf_frame, read_bytes, write_bytes, leaf_bytes, with_first, rising, leaves, head_bytes, archive_bytes, archive}
 use Rattle.history.specs.Laws.{Lawful}
 use Rattle.history.proofs.Positions.{fits_at, job_of_leaf}
 
@@ -122,17 +123,17 @@ module _ {V : Type 0} where
   unfolding leaves
   leaves_small h s = rising_small 0 (last_job + 1) h s
 
-  leaf_of_leaves : (j : ℕ) (h : List (Leaf V)) → j ≤ last_job → leaf_of (leaves h) j ≡ leaf_of h j
+  pub leaf_of_leaves : (j : ℕ) (h : List (Leaf V)) → j ≤ last_job → leaf_of (leaves h) j ≡ leaf_of h j
   unfolding leaves
   leaf_of_leaves j h l = rising_at j 0 (last_job + 1) h (omega arith) (omega arith)
 
   module _ (bytes : V → List ℕ) (kind width : ℕ) (g h : List (Leaf V)) where
     pub archive_same : ((j : ℕ) → leaf_of g j ≡ leaf_of h j) → archive bytes kind width g ≡ archive bytes kind width h
-    unfolding archive
+    unfolding archive_bytes
     archive_same e = ap (λ ls. head_bytes bytes kind width (length ls) ++ flat_map (leaf_bytes bytes) ls) (leaves_same g h e)
 
     pub archive_apart : Lawful bytes width → Serial g → Serial h → archive bytes kind width g ≡ archive bytes kind width h → (j : ℕ) → leaf_of g j ≡ leaf_of h j
-    unfolding archive
+    unfolding archive_bytes
     archive_apart lawful sg sh e j =
         let same : leaves g ≡ leaves h = leaves_apart bytes width lawful (leaves g) (leaves h) (leaves_small g sg) (leaves_small h sh) (cc) in
         elim (cases_lt last_job j) [

@@ -1,8 +1,8 @@
--- The archive of a history, as bytes: a head frame and one frame for each leaf; `src/lib.rt` cites it. Assumes nothing.
+-- The archive as bytes: a head frame and one frame for each leaf; `src/lib.rt` and the archive's writer cite it. Assumes nothing.
 use Rattle.std.specs.Prelude.{ℕ, zero, suc, ◌+◌, List, [], ◌∷◌, ◌++◌, length, Some, None, Option}
 use Rattle.std.specs.List.{flat_map}
 use Rattle.encoding.specs.Bytes.{little_endian}
-use Rattle.encoding.specs.Frames.{frame}
+use Rattle.encoding.specs.Frames.{frame, counted}
 use Rattle.ledger.specs.Limits.{last_job}
 use Rattle.ledger.specs.declared.job.JobKind.{JobKind}
 use Rattle.ledger.specs.declared.job.JobKind.TheVariants.{Amendment, Inspection}
@@ -17,10 +17,6 @@ head_frame = 1
 abbrev pub leaf_frame : JobKind → ℕ
 leaf_frame Amendment = 2
 leaf_frame Inspection = 3
-
--- a count in one byte, and then each element
-abbrev pub counted : {X : Type 0} → (X → List ℕ) → List X → List ℕ
-counted f xs = length xs ∷ flat_map f xs
 
 abbrev pub read_bytes : Read → List ℕ
 read_bytes q = q.«record» ∷ (q.version ∷ [])
@@ -50,6 +46,10 @@ module _ {V : Type 0} (bytes : V → List ℕ) (kind width : ℕ) where
   abbrev pub head_bytes : ℕ → List ℕ
   head_bytes count = frame head_frame (little_endian 2 count ++ (little_endian 2 kind ++ little_endian 2 width))
 
-  -- `kind` and `width` are the number of the kind of value and how many bytes a value has
-  unfoldable pub archive : List (Leaf V) → List ℕ
-  archive h = head_bytes (length (leaves h)) ++ flat_map (leaf_bytes bytes) (leaves h)
+  -- the bytes of an archive of these leaves, which stand in rising job number; `kind` and `width` are the number of the kind of value and how many bytes a value has
+  unfoldable pub archive_bytes : List (Leaf V) → List ℕ
+  archive_bytes xs = head_bytes (length xs) ++ flat_map (leaf_bytes bytes) xs
+
+  -- the archive of a history
+  abbrev pub archive : List (Leaf V) → List ℕ
+  archive h = archive_bytes (leaves h)

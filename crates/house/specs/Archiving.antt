@@ -1,12 +1,11 @@
 -- The archive of a house: its leaves, its bytes, what the call tells and what the buffer then holds. Assumes nothing.
-use Rattle.std.specs.Prelude.{ℕ, Bool, cond, List, [], ◌∷◌, ◌++◌, map, length, drop, Some, None, Ok, Err, Option, Result, nat_le, nat_lt}
-use Rattle.std.specs.List.{slice_get}
+use Rattle.std.specs.Prelude.{ℕ, Bool, cond, List, ◌++◌, map, length, drop, Ok, Err, Result, nat_le, nat_lt}
 use Rattle.bounded.specs.Searching.{any}
 use Rattle.shelves.specs.declared.fault.ShelfFault.TheVariants.{NoSuchPlace}
 use Rattle.ledger.specs.Model.{row}
-use Rattle.ledger.specs.declared.job.Write.{Write}
-use Rattle.history.specs.Histories.{LeafWrite, Leaf}
-use Rattle.history.specs.Layout.{with_first, archive}
+use Rattle.history.specs.Histories.{Leaf}
+use Rattle.history.specs.Layout.{archive}
+use Rattle.archive.specs.Leaves.{leaf_writes}
 use Rattle.house.specs.Faults.{kept}
 use Rattle.house.specs.Model.{HouseModel}
 use Rattle.house.specs.declared.fault.Fault.{Fault}
@@ -22,15 +21,6 @@ abbrev pub coding : {V : Type 0} → (V → List ℕ) → ℕ → ℕ → Coding
 coding bytes kind width = record { bytes = bytes; kind = kind; width = width }
 
 module _ {V : Type 0} where
-  abbrev pub leaf_write : Write → Option V → Option (LeafWrite V)
-  leaf_write w None = None
-  leaf_write w (Some v) = Some (record { «record» = w.«record»; version = w.version; value = v })
-
-  -- the writes of a row with their values; one whose place the shelf lacks is left out, which no run meets
-  abbrev pub leaf_writes : List V → List Write → List (LeafWrite V)
-  leaf_writes items [] = []
-  leaf_writes items (w ∷ ws) = with_first (leaf_write w (slice_get items w.place)) (leaf_writes items ws)
-
   -- the leaf of a job, by its row
   abbrev pub job_leaf : HouseModel V → ℕ → Leaf V
   job_leaf m j =

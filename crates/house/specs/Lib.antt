@@ -3,6 +3,7 @@ pub mod Model
 pub mod Calls
 pub mod Committing
 pub mod Archiving
+pub mod RowArchiving
 pub mod Runs
 pub mod Log
 pub mod Slips

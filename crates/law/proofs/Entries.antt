@@ -15,7 +15,7 @@ use Rattle.protocol.specs.Calls.{LedgerCall, call_open, call_read, call_write, c
 use Rattle.protocol.proofs.Lookups.{unseen_push}
 use Rattle.protocol.proofs.RowSteps.{entries, with_entry, Core, core, core_after}
 use Rattle.protocol.proofs.VersionSteps.{has_written_entry}
-use Rattle.house.specs.Archiving.{leaf_write, leaf_writes}
+use Rattle.archive.specs.Leaves.{leaf_write, leaf_writes}
 use Rattle.house.specs.Log.{contains, with_value, value_of}
 
 abbrev pub Within : ℕ → List Read → Type 0

@@ -8,3 +8,6 @@ pub mod Explaining
 pub mod Collecting
 pub mod Shelving
 pub mod Lawfulness
+pub mod OwnReads
+pub mod RowsArchived
+pub mod Performed

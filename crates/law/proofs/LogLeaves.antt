@@ -10,7 +10,8 @@ use Rattle.protocol.proofs.JobLists.{Among}
 use Rattle.protocol.proofs.RowSteps.{entries}
 use Rattle.protocol.proofs.VersionSteps.{written_place_entry, has_written_entry}
 use Rattle.house.specs.Model.{HouseModel}
-use Rattle.house.specs.Archiving.{leaf_writes, job_leaf, house_leaves}
+use Rattle.archive.specs.Leaves.{leaf_writes}
+use Rattle.house.specs.Archiving.{job_leaf, house_leaves}
 use Rattle.house.specs.Runs.{Event, Progress}
 use Rattle.house.specs.Log.{before, writes_in, answered_in, wrote_in, writers_in, version_in, value_of, writer_or, last_writer_in, leaf_in}
 use Rattle.law.proofs.Entries.{within_found, each_read, each_write, reads_by_record, nth_some, value_of_valued, leaf_writes_by_record}

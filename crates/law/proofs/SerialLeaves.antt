@@ -56,7 +56,7 @@ counts_same a b m n p q = cc
 module _ {V : Type 0} where
   -- leaves that are made from job numbers are found by them
   module _ (m : HouseModel V) where
-    leaf_of_jobs : (js : List ℕ) (j : ℕ) → leaf_of (map (job_leaf m) js) j ≡ cond (contains js j) (Some (job_leaf m j)) None
+    pub leaf_of_jobs : (js : List ℕ) (j : ℕ) → leaf_of (map (job_leaf m) js) j ≡ cond (contains js j) (Some (job_leaf m j)) None
     leaf_of_jobs [] j = refl
     leaf_of_jobs (x ∷ js) j = go (eqb x j) refl (leaf_of_jobs js j)
       where

@@ -39,7 +39,7 @@ module _ {V : Type 0} (p : Progress V) (T : Tied p) where
   abbrev log : List (Event V)
   log = p.log
 
-  none_lacked : lacks_value m ≡ false
+  pub none_lacked : lacks_value m ≡ false
   none_lacked = go l.answered
     where
       go : (js : List ℕ) → any (λ j. any (λ w. leb (length vs) w.place) (row l j).writes) js ≡ false

@@ -1,2 +1,5 @@
 pub mod Law
+pub mod Performing
+pub mod Kinds
+pub mod Figures
 pub mod Examples

@@ -1,11 +1,14 @@
-// The law of the house. Nothing here runs: each function stands for the theorem in its contract.
+// The law of the house: `perform` has it in its contract. The functions in this file do not run: each stands for the theorem in its contract.
 #![tactic(auto)]
 
 ghost use Rattle.house.specs.Archiving.{coding};
 ghost use Rattle.law.specs.Law.{TheLaw, NeverLacking, LedgerReached};
 ghost use Rattle.law.specs.Examples.{Alike, Unlike, Crossing};
+ghost use Rattle.law.specs.Figures.{Figures};
 
 use values::value::Value;
+
+pub mod perform;
 
 // Archives agree exactly if the logs do, each read is explained by the jobs answered before it, and the first of the line can be collected.
 pub fn law_stands<V: Value>()
@@ -35,4 +38,9 @@ pub fn unlike_runs()
 // Two inspections that see two amendments in no common order hold both back.
 pub fn crossing_inspections()
     ensures { Crossing }
+{}
+
+// Worked cases of the rules, each by computation.
+pub fn figures_stand()
+    ensures { Figures }
 {}

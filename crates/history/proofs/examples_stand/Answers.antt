@@ -1,9 +1,9 @@
 use Rattle.std.proofs.Common.{◌≡◌, ℕ, get_or, refl, ap, arith}
-use Rattle.history.specs.Layout.{leaves, archive}
+use Rattle.history.specs.Layout.{leaves, archive_bytes}
 use Rattle.history.proofs.examples_stand.Goals as goal
 
 pub returns : goal.returns
-unfolding leaves archive
+unfolding leaves archive_bytes
 returns c = record {
   empty = refl;
   day = refl;

@@ -1,0 +1,3 @@
+pub mod Writes
+pub mod RowLeaves
+pub mod Outputs

@@ -1,0 +1,89 @@
+-- What a call that runs does, and how it continues the runs of the rules; `src/perform.rt` cites it. Assumes nothing.
+use Rattle.std.specs.Prelude.{◌≡◌, ℕ, List, ◌∷◌, ◌++◌, length, Some, None, Ok, Option, Result}
+use Rattle.house.specs.Model.{HouseModel}
+use Rattle.house.specs.Archiving.{Coding, buffer_after}
+use Rattle.house.specs.RowArchiving.{rows_told, rows_buffer}
+use Rattle.house.specs.Runs.{told_as, call_told, Event, Progress, proceeded, Run}
+use Rattle.house.specs.Log.{writes_in, value_of}
+use Rattle.house.specs.declared.fault.Fault.{Fault}
+use Rattle.house.specs.declared.call.Call.{Call}
+use Rattle.house.specs.declared.call.Call.TheVariants.{Open, Read, Write, HandIn, Deliver, Collect, Close, Withdraw, Archive}
+use Rattle.house.specs.declared.call.Told.{Told}
+use Rattle.house.specs.declared.call.Told.TheVariants as told
+
+module _ {V : Type 0} where
+  -- a call with a buffer of so many bytes beside it: the archive gets the whole buffer, whatever length its call names
+  abbrev pub fitted : Call V → (room : ℕ) → Call V
+  fitted (Open j k) room = Open j k
+  fitted (Read j r) room = Read j r
+  fitted (Write j r v) room = Write j r v
+  fitted (HandIn j) room = HandIn j
+  fitted (Deliver j o) room = Deliver j o
+  fitted (Collect j) room = Collect j
+  fitted (Close j) room = Close j
+  fitted (Withdraw j) room = Withdraw j
+  fitted (Archive n) room = Archive room
+
+  -- the value that was told as own
+  abbrev pub own_value : Told V → Option V
+  own_value told.Done = None
+  own_value told.Blank = None
+  own_value (told.Own v) = Some v
+  own_value (told.Version n v) = None
+  own_value told.Answered = None
+  own_value (told.Dropped mark) = None
+  own_value (told.Archived size) = None
+
+module _ {V : Type 0} (C : Coding V) where
+  -- what the code tells: it goes by the rules of the calls, and for the archive by the rows
+  abbrev pub performed_told : HouseModel V → Call V → (room : ℕ) → Result (Told V) Fault
+  performed_told m (Open j k) room = call_told C m (Open j k)
+  performed_told m (Read j r) room = call_told C m (Read j r)
+  performed_told m (Write j r v) room = call_told C m (Write j r v)
+  performed_told m (HandIn j) room = call_told C m (HandIn j)
+  performed_told m (Deliver j o) room = call_told C m (Deliver j o)
+  performed_told m (Collect j) room = call_told C m (Collect j)
+  performed_told m (Close j) room = call_told C m (Close j)
+  performed_told m (Withdraw j) room = call_told C m (Withdraw j)
+  performed_told m (Archive n) room = told_as told.Archived (rows_told C m room)
+
+  -- what the buffer then holds: the archive alone writes to it
+  abbrev pub performed_buffer : HouseModel V → Call V → List ℕ → List ℕ
+  performed_buffer m (Open j k) buffer = buffer
+  performed_buffer m (Read j r) buffer = buffer
+  performed_buffer m (Write j r v) buffer = buffer
+  performed_buffer m (HandIn j) buffer = buffer
+  performed_buffer m (Deliver j o) buffer = buffer
+  performed_buffer m (Collect j) buffer = buffer
+  performed_buffer m (Close j) buffer = buffer
+  performed_buffer m (Withdraw j) buffer = buffer
+  performed_buffer m (Archive n) buffer = rows_buffer C m buffer
+
+  -- the same by the rules: the archive of the answered jobs
+  abbrev pub call_buffer : HouseModel V → Call V → List ℕ → List ℕ
+  call_buffer m (Open j k) buffer = buffer
+  call_buffer m (Read j r) buffer = buffer
+  call_buffer m (Write j r v) buffer = buffer
+  call_buffer m (HandIn j) buffer = buffer
+  call_buffer m (Deliver j o) buffer = buffer
+  call_buffer m (Collect j) buffer = buffer
+  call_buffer m (Close j) buffer = buffer
+  call_buffer m (Withdraw j) buffer = buffer
+  call_buffer m (Archive n) buffer = buffer_after C m buffer
+
+  -- a run with this call added is a run that has come to this house, and what was told and what the buffer holds is what the rules say there
+  pub record Continued (p : Progress V) (c : Call V) (buffer : List ℕ) (t : Result (Told V) Fault) (left : List ℕ) (after : HouseModel V) : Type 0 where
+    pub run : Run C (proceeded C p (fitted c (length buffer)))
+    pub here : (proceeded C p (fitted c (length buffer))).house ≡ after
+    pub told : t ≡ call_told C p.house (fitted c (length buffer))
+    pub written : left ≡ call_buffer p.house c buffer
+
+  -- a call with a buffer leads from one house to another: it continues every run that leads to the first
+  abbrev pub Continues : HouseModel V → Call V → List ℕ → Result (Told V) Fault → List ℕ → HouseModel V → Type 0
+  Continues before c buffer t left after = (p : Progress V) → Run C p → p.house ≡ before → Continued p c buffer t left after
+
+-- a read was told as own exactly where its job had written the record before, and then it was told what the job had written last
+abbrev pub OwnTold : {V : Type 0} → Coding V → Type 0
+OwnTold {V} C =
+    (p : Progress V) → Run C p → (later earlier : List (Event V)) (j r : ℕ) (t : Told V) → p.log ≡ later ++ record { call = Read j r; told = Ok t } ∷ earlier →
+    own_value t ≡ value_of (writes_in earlier j) r
