@@ -1,4 +1,4 @@
--- What the code of the archive goes by: the rows. A job whose row is answered has a leaf. `src/archive.rt` cites it. Assumes nothing.
+-- What the code of the archive goes by: the rows. A job whose row is answered has a leaf. `src/archiving.rt` cites it. Assumes nothing.
 -- In a house that calls have led to, the answered rows are those of the answered jobs, and then this is the archive of `Archiving`: `perform` of the crate `law` promises it.
 use Rattle.std.specs.Prelude.{ℕ, Bool, cond, List, length, Ok, Err, Result, nat_lt}
 use Rattle.encoding.specs.Outputs.{in_front}

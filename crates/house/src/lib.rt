@@ -1,7 +1,7 @@
 // The house: the state in which all offices of one forwarder work, over any shelf and any kind of value.
 #![tactic(auto)]
 
-pub mod archive;
+pub mod archiving;
 pub mod call;
 pub mod fault;
 pub mod house;
