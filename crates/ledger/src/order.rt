@@ -88,6 +88,20 @@ fn precedes_in_lists(listing: &Row, first: &Row, later: &Row) -> bool
         || precedes_in_reads(listing.reads.as_slice(), first, later)
 }
 
+// Whether the first job precedes the later one in some record that the first has written.
+fn writes_precede<'a>(first: &'a Row, later: &'a Row) -> bool
+    ensures { result ≡ some (λ x. preceding_in (row_view first.now) (row_view later.now) x.«record») (row_view first.now).writes }
+{
+    precedes_in_writes(first.writes.as_slice(), first, later)
+}
+
+// Whether the first job precedes the later one in some record that the first has read.
+fn reads_precede<'a>(first: &'a Row, later: &'a Row) -> bool
+    ensures { result ≡ some (λ x. preceding_in (row_view first.now) (row_view later.now) x.«record») (row_view first.now).reads }
+{
+    precedes_in_reads(first.reads.as_slice(), first, later)
+}
+
 // How many entries a job's lists have.
 fn listed_count(row: &Row) -> usize {
     row.reads.len() + row.writes.len()
@@ -100,7 +114,7 @@ pub(crate) fn precedes(first: &Row, later: &Row) -> bool
     if listed_count(later) < listed_count(first) {
         precedes_in_lists(later, first, later)
     } else {
-        precedes_in_lists(first, first, later)
+        writes_precede(first, later) || reads_precede(first, later)
     }
 }
 
