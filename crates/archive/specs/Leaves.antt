@@ -33,6 +33,6 @@ module _ {V : Type 0} where
 abbrev pub lacks_write : ℕ → List Write → Bool
 lacks_write count ws = any (λ w. nat_le count w.place) ws
 
--- it lacks a write of one of these rows that is answered; no run meets that
+-- it lacks a write of one of these rows that is answered; no run meets that (`rows_archived` of the crate `law`)
 abbrev pub lacks_value : ℕ → List RowModel → Bool
 lacks_value count xs = any (λ x. is_answered x.state && lacks_write count x.writes) xs

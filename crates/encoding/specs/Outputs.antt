@@ -17,7 +17,7 @@ abbrev pub put_bytes : List ℕ → Output → Output
 put_bytes [] o = o
 put_bytes (b ∷ bs) o = put_bytes bs (put_byte b o)
 
--- a buffer with these bytes in front, in the place of as many of its own
+-- a buffer with these bytes in front, in the place of as many of its own; it has at least so many
 abbrev pub in_front : List ℕ → List ℕ → List ℕ
 in_front bs buffer = bs ++ drop (length bs) buffer
 

@@ -1,4 +1,4 @@
-// Numbers as little_endian bytes, written to and read from a part of a slice.
+// Numbers as little-endian bytes, written to and read from a part of a slice.
 // This module is internal to the repository: its callers lend a part of exactly the number's width.
 ghost use Rattle.std.specs.Prelude.{◌≡◌, length};
 ghost use Rattle.std.proofs.Common.{of_z, to_z};

@@ -46,10 +46,10 @@ module _ {V : Type 0} where
   -- two leaves with one outline and as many writers before them
   leaf_same : (x y : Leaf V) (g h : List (Leaf V)) → outline x ≡ outline y → Fits x g → Fits y h → ((r : ℕ) → used x r ≡ true → writer_count g r ≡ writer_count h r) → x ≡ y
   leaf_same x y g h e p q same =
-      let read-counts = All-weaker (λ q. any (λ p. eqb p.«record» q.«record») x.reads ≡ true) (λ q. writer_count g q.«record» ≡ writer_count h q.«record») (λ q t. same q.«record» (or_left _ (wrote x q.«record») t)) x.reads (all_listed (λ q. q.«record») x.reads) in
-      let write-counts = All-weaker (λ w. any (λ p. eqb p.«record» w.«record») x.writes ≡ true) (λ w. writer_count g w.«record» ≡ writer_count h w.«record») (λ w t. same w.«record» (or_right (any (λ q. eqb q.«record» w.«record») x.reads) _ t)) x.writes (all_listed (λ w. w.«record») x.writes) in
-      let reads = reads_same (writer_count g) (writer_count h) x.reads y.reads (ap (λ o. o.read) e) read-counts p.read q.read in
-      let writes = writes_same (writer_count g) (writer_count h) x.writes y.writes (ap (λ o. o.written) e) write-counts p.written q.written in
+      let read_counts = All-weaker (λ q. any (λ p. eqb p.«record» q.«record») x.reads ≡ true) (λ q. writer_count g q.«record» ≡ writer_count h q.«record») (λ q t. same q.«record» (or_left _ (wrote x q.«record») t)) x.reads (all_listed (λ q. q.«record») x.reads) in
+      let write_counts = All-weaker (λ w. any (λ p. eqb p.«record» w.«record») x.writes ≡ true) (λ w. writer_count g w.«record» ≡ writer_count h w.«record») (λ w t. same w.«record» (or_right (any (λ q. eqb q.«record» w.«record») x.reads) _ t)) x.writes (all_listed (λ w. w.«record») x.writes) in
+      let reads = reads_same (writer_count g) (writer_count h) x.reads y.reads (ap (λ o. o.read) e) read_counts p.read q.read in
+      let writes = writes_same (writer_count g) (writer_count h) x.writes y.writes (ap (λ o. o.written) e) write_counts p.written q.written in
       let job = ap (λ o. o.job) e in
       let kind = ap (λ o. o.kind) e in
       λ i. record { job = job i; kind = kind i; reads = reads i; writes = writes i }

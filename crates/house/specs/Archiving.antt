@@ -1,4 +1,4 @@
--- The archive of a house: its leaves, its bytes, what the call tells and what the buffer then holds. Assumes nothing.
+-- The archive of a house by its answered jobs: its leaves, its bytes, what the call tells and what the buffer then holds. Runs and the law go by it; the code goes by `RowArchiving`. Assumes nothing.
 use Rattle.std.specs.Prelude.{ℕ, Bool, cond, List, ◌++◌, map, length, drop, Ok, Err, Result, nat_le, nat_lt}
 use Rattle.bounded.specs.Searching.{any}
 use Rattle.shelves.specs.declared.fault.ShelfFault.TheVariants.{NoSuchPlace}

@@ -1,5 +1,5 @@
 -- What the code of the archive goes by: the rows. A job whose row is answered has a leaf. `src/archiving.rt` cites it. Assumes nothing.
--- In a house that calls have led to, the answered rows are those of the answered jobs, and then this is the archive of `Archiving`: `perform` of the crate `law` promises it.
+-- In a house that calls have led to it is the archive of `Archiving`, since there the answered rows are those of the answered jobs: `rows_archived` of the crate `law` says so.
 use Rattle.std.specs.Prelude.{ℕ, Bool, cond, List, length, Ok, Err, Result, nat_lt}
 use Rattle.encoding.specs.Outputs.{in_front}
 use Rattle.shelves.specs.declared.fault.ShelfFault.TheVariants.{NoSuchPlace}

@@ -17,7 +17,7 @@ use shelves::shelf::Shelf;
 // It cannot be let go in any other way: its `drop` asks that it is spent, and no slip that a program holds is, so the check refuses a program that leaves one over.
 pub struct Slip {
     job: u64,
-    // whether the inspection was closed by this slip; only `spend` sets it, and then the slip is gone
+    // whether the slip was given up to a close; only `spend` sets it, and then the slip is gone
     spent: bool,
 }
 

@@ -11,7 +11,7 @@ use Rattle.ledger.specs.declared.job.Read.{Read}
 use Rattle.ledger.specs.declared.job.Write.{Write}
 use Rattle.history.specs.Histories.{LeafWrite}
 use Rattle.history.specs.Layout.{with_first}
-use Rattle.protocol.specs.Calls.{LedgerCall, call_open, call_read, call_write, call_hand_in, call-collect, call-close, call-withdraw, call_deliver}
+use Rattle.protocol.specs.Calls.{LedgerCall, call_open, call_read, call_write, call_hand_in, call_collect, call_close, call_withdraw, call_deliver}
 use Rattle.protocol.proofs.Lookups.{unseen_push}
 use Rattle.protocol.proofs.RowSteps.{entries, with_entry, Core, core, core_after}
 use Rattle.protocol.proofs.VersionSteps.{has_written_entry}
@@ -114,9 +114,9 @@ once_reads_after l (call_write j r p) k u = go (eqb k j)
     go true = u
     go false = u
 once_reads_after l (call_hand_in j) k u = u
-once_reads_after l (call-collect j) k u = u
-once_reads_after l (call-close j) k u = u
-once_reads_after l (call-withdraw j) k u = u
+once_reads_after l (call_collect j) k u = u
+once_reads_after l (call_close j) k u = u
+once_reads_after l (call_withdraw j) k u = u
 once_reads_after l (call_deliver j o) k u = u
 
 pub once_writes_after : (l : LedgerModel) (c : LedgerCall) (k : ℕ) (x : Core) → OnceEach x.writes → OnceEach (core_after l c k x).writes
@@ -136,9 +136,9 @@ once_writes_after l (call_write j r p) k x u = go (eqb k j)
     go true = once_with_entry x.writes r p u
     go false = u
 once_writes_after l (call_hand_in j) k x u = u
-once_writes_after l (call-collect j) k x u = u
-once_writes_after l (call-close j) k x u = u
-once_writes_after l (call-withdraw j) k x u = u
+once_writes_after l (call_collect j) k x u = u
+once_writes_after l (call_close j) k x u = u
+once_writes_after l (call_withdraw j) k x u = u
 once_writes_after l (call_deliver j o) k x u = u
 
 -- a listed version stays
@@ -174,9 +174,9 @@ listed_stays l (call_write j r p) k s u = go (eqb k j)
     go true = refl
     go false = refl
 listed_stays l (call_hand_in j) k s u = refl
-listed_stays l (call-collect j) k s u = refl
-listed_stays l (call-close j) k s u = refl
-listed_stays l (call-withdraw j) k s u = refl
+listed_stays l (call_collect j) k s u = refl
+listed_stays l (call_close j) k s u = refl
+listed_stays l (call_withdraw j) k s u = refl
 listed_stays l (call_deliver j o) k s u = refl
 
 -- the values at the places

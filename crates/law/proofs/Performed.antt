@@ -1,4 +1,4 @@
--- A call that runs continues every run that leads to the house where it starts.
+-- A call that runs continues every run that leads to the house where it starts; and there its archive by the rows is that of the answered jobs.
 use Rattle.std.proofs.Common.{◌≡◌, ℕ, List, length, Result, sym, refl, ap, ◌∙◌}
 use Rattle.house.specs.Archiving.{Coding}
 use Rattle.house.specs.Model.{HouseModel}
@@ -8,8 +8,8 @@ use Rattle.house.specs.declared.call.Call.{Call}
 use Rattle.house.specs.declared.call.Told.{Told}
 use Rattle.house.specs.declared.call.Call.TheVariants as call
 use Rattle.house.specs.declared.call.Told.TheVariants as told
-use Rattle.law.specs.Performing.{fitted, performed_told, performed_buffer, call_buffer, Continues}
-use Rattle.law.proofs.RowsArchived.{told_same, buffer_same}
+use Rattle.law.specs.Performing.{fitted, performed_told, performed_buffer, call_buffer, Continues, RowsArchived}
+use Rattle.law.proofs.RowsArchived.{rows_archived, rows_complete, told_same, buffer_same}
 use Rattle.law.proofs.Tying.{Tied}
 use Rattle.law.proofs.TyingCalls.{tied}
 
@@ -59,3 +59,6 @@ module _ {V : Type 0} (C : Coding V) where
         told = a ∙ ap (λ m. performed_told C m c (length buffer)) (sym h) ∙ told_by_rules p T c (length buffer);
         written = d ∙ ap (λ m. performed_buffer C m c buffer) (sym h) ∙ written_by_rules p T c buffer;
       }
+
+  pub archived_by_rows : RowsArchived C
+  archived_by_rows p r = let T : Tied p = tied C p r in (rows_complete p T, sym (rows_archived p T C))

@@ -72,7 +72,7 @@ module _ {V : Type 0} where
     pub rows_archived : (C : Coding V) → house_archive C m ≡ rows_archive C m
     rows_archived C = ap (archive_bytes C.bytes C.kind C.width) leaves_rise
 
-    rows_complete : rows_lack m ≡ false
+    pub rows_complete : rows_lack m ≡ false
     rows_complete = go l.rows (λ j. none_missing vs (row l j).writes (T.within j))
       where
         go : (xs : List RowModel) → ((i : ℕ) → lacks_write (length vs) (get_or xs i no_row).writes ≡ false) → lacks_value (length vs) xs ≡ false

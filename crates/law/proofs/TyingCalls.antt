@@ -12,7 +12,7 @@ use Rattle.ledger.specs.declared.job.JobKind.TheVariants.{Amendment}
 use Rattle.ledger.specs.declared.job.State.{State}
 use Rattle.ledger.specs.declared.job.State.TheVariants.{NeverOpened, Open, Voting, Accepted, Dropped, Answered, Ended}
 use Rattle.ledger.specs.declared.job.Read.{Read}
-use Rattle.protocol.specs.Calls.{call_open, call_write, call_hand_in, call-collect, call-close, call-withdraw, call_deliver, line_after, new}
+use Rattle.protocol.specs.Calls.{call_open, call_write, call_hand_in, call_collect, call_close, call_withdraw, call_deliver, line_after, new}
 use Rattle.protocol.proofs.Lookups.{in_replicate}
 use Rattle.protocol.proofs.Matching.{line_same}
 use Rattle.protocol.proofs.RowSteps.{entries, with_entry, Core, core, answers_after}
@@ -104,7 +104,7 @@ module _ {V : Type 0} where
         is : (s : State) → (row l j).state ≡ s → occurrence e ≡ cond (is_dropped s) nothing (answered j)
         is s q = collect_occurrence j (row l j).state ∙ ap (λ s. cond (is_dropped s) nothing (answered j)) q
 
-        answers_are : (s : State) → (row l j).state ≡ s → answers_after l (call-collect j) ≡ cond (is_accepted s) (j ∷ l.answered) l.answered
+        answers_are : (s : State) → (row l j).state ≡ s → answers_after l (call_collect j) ≡ cond (is_accepted s) (j ∷ l.answered) l.answered
         answers_are s q = ap (λ s. cond (is_accepted s) (j ∷ l.answered) l.answered) q
 
         go : (s : State) → (row l j).state ≡ s → Tied (record { house = collect_after m j; log = e ∷ p.log; line = line_after l (collect_done l j) j p.line })
@@ -113,8 +113,8 @@ module _ {V : Type 0} where
         go Voting q = absurd (grind arith)
         go Answered q = absurd (grind arith)
         go Ended q = absurd (grind arith)
-        go Accepted q = answers_one p T (call-collect j) f e (λ i x. refl) (λ i x. refl) j (is Accepted q) (λ i x. refl) (answers_are Accepted q)
-        go (Dropped k) q = unseen p T (call-collect j) f e (λ i x. refl) (λ i x. refl) (is (Dropped k) q) (λ i x. refl) (answers_are (Dropped k) q)
+        go Accepted q = answers_one p T (call_collect j) f e (λ i x. refl) (λ i x. refl) j (is Accepted q) (λ i x. refl) (answers_are Accepted q)
+        go (Dropped k) q = unseen p T (call_collect j) f e (λ i x. refl) (λ i x. refl) (is (Dropped k) q) (λ i x. refl) (answers_are (Dropped k) q)
 
     write_tied : (j r : ℕ) (v : V) → write_fault l j r ≡ None →
         Tied (record { house = write_after m j r v; log = record { call = call.Write j r v; told = Ok told.Done } ∷ p.log; line = line_after l (write_done l j r (length vs)) j p.line })
@@ -177,10 +177,10 @@ module _ {V : Type 0} where
         subst (λ y. Tied (record { house = collect_after m j; log = record { call = call.Collect j; told = Ok (collected_told y) } ∷ p.log; line = line_after l (collect_done l j) j p.line })) s (collect_tied j o.0))
     tied_step C (call.Close j) =
         judged (call.Close j) j nothing_more (close_told m j) (close_after m j) (λ f. refl)
-        (λ a e. answers_one p T (call-close j) (passed (close_fault l j) (Ok tt) a e).0 (record { call = call.Close j; told = Ok told.Done }) (λ k x. refl) (λ k x. refl) j refl (λ k x. refl) refl)
+        (λ a e. answers_one p T (call_close j) (passed (close_fault l j) (Ok tt) a e).0 (record { call = call.Close j; told = Ok told.Done }) (λ k x. refl) (λ k x. refl) j refl (λ k x. refl) refl)
     tied_step C (call.Withdraw j) =
         judged (call.Withdraw j) j nothing_more (withdraw_told m j) (withdraw_after m j) (λ f. refl)
-        (λ a e. unseen p T (call-withdraw j) (passed (withdraw_fault l j) (Ok tt) a e).0 (record { call = call.Withdraw j; told = Ok told.Done }) (λ k x. refl) (λ k x. refl) refl (λ k x. refl) refl)
+        (λ a e. unseen p T (call_withdraw j) (passed (withdraw_fault l j) (Ok tt) a e).0 (record { call = call.Withdraw j; told = Ok told.Done }) (λ k x. refl) (λ k x. refl) refl (λ k x. refl) refl)
     tied_step C (call.Archive n) = unchanged p T (record { call = call.Archive n; told = told_as told.Archived (archive_told C m n) }) refl p.line refl
 
   beginning_tied : (offices : ℕ) (items : List V) (room : ℕ) → Tied (beginning offices items room)

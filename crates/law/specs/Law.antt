@@ -1,4 +1,4 @@
--- The law of the house: what holds of all runs, by the calls and what they told; `src/lib.rt` cites it.
+-- The law of the house: what holds of all runs, by the calls and what they told; `src/lib.rt` and `src/perform.rt` cite it.
 -- Assumes nothing of a run: any calls, accepted and refused, to a newly built house with any number of offices and any shelf.
 use Rattle.std.specs.Prelude.{◌≡◌, ℕ, ◌<◌, ◌≤◌, true, false, cond, ◌↔◌, List, ◌∷◌, ◌++◌, map, length, drop, Some, None, Ok, Err, Option, Result, ◌≢◌}
 use Rattle.std.specs.List.{ContainsAt as Has}

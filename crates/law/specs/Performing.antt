@@ -1,8 +1,8 @@
--- What a call that runs does, and how it continues the runs of the rules; `src/perform.rt` cites it. Assumes nothing.
-use Rattle.std.specs.Prelude.{◌≡◌, ℕ, List, ◌∷◌, ◌++◌, length, Some, None, Ok, Option, Result}
+-- What a call that runs does, and how it continues the runs of the rules; `src/perform.rt` and `src/lib.rt` cite it. Assumes nothing.
+use Rattle.std.specs.Prelude.{◌≡◌, ℕ, false, List, ◌∷◌, ◌++◌, length, Some, None, Ok, Option, Result}
 use Rattle.house.specs.Model.{HouseModel}
-use Rattle.house.specs.Archiving.{Coding, buffer_after}
-use Rattle.house.specs.RowArchiving.{rows_told, rows_buffer}
+use Rattle.house.specs.Archiving.{Coding, house_archive, buffer_after}
+use Rattle.house.specs.RowArchiving.{rows_lack, rows_archive, rows_told, rows_buffer}
 use Rattle.house.specs.Runs.{told_as, call_told, Event, Progress, proceeded, Run}
 use Rattle.house.specs.Log.{writes_in, value_of}
 use Rattle.house.specs.declared.fault.Fault.{Fault}
@@ -35,7 +35,7 @@ module _ {V : Type 0} where
   own_value (told.Archived size) = None
 
 module _ {V : Type 0} (C : Coding V) where
-  -- what the code tells: it goes by the rules of the calls, and for the archive by the rows
+  -- what the code tells: it goes by the rules of the calls, but for the archive by the rows
   abbrev pub performed_told : HouseModel V → Call V → (room : ℕ) → Result (Told V) Fault
   performed_told m (Open j k) room = call_told C m (Open j k)
   performed_told m (Read j r) room = call_told C m (Read j r)
@@ -71,7 +71,8 @@ module _ {V : Type 0} (C : Coding V) where
   call_buffer m (Withdraw j) buffer = buffer
   call_buffer m (Archive n) buffer = buffer_after C m buffer
 
-  -- a run with this call added is a run that has come to this house, and what was told and what the buffer holds is what the rules say there
+  -- the run with this call added, fitted to its buffer, is a run that has come to this house;
+  -- and what was told, and what the buffer holds, is what the rules say in the house where the call began
   pub record Continued (p : Progress V) (c : Call V) (buffer : List ℕ) (t : Result (Told V) Fault) (left : List ℕ) (after : HouseModel V) : Type 0 where
     pub run : Run C (proceeded C p (fitted c (length buffer)))
     pub here : (proceeded C p (fitted c (length buffer))).house ≡ after
@@ -81,6 +82,10 @@ module _ {V : Type 0} (C : Coding V) where
   -- a call with a buffer leads from one house to another: it continues every run that leads to the first
   abbrev pub Continues : HouseModel V → Call V → List ℕ → Result (Told V) Fault → List ℕ → HouseModel V → Type 0
   Continues before c buffer t left after = (p : Progress V) → Run C p → p.house ≡ before → Continued p c buffer t left after
+
+-- in a house that calls have led to, the archive by the rows, which the code goes by, lacks no value and is that of the answered jobs
+abbrev pub RowsArchived : {V : Type 0} → Coding V → Type 0
+RowsArchived {V} C = (p : Progress V) → Run C p → (rows_lack p.house ≡ false) × (rows_archive C p.house ≡ house_archive C p.house)
 
 -- a read was told as own exactly where its job had written the record before, and then it was told what the job had written last
 abbrev pub OwnTold : {V : Type 0} → Coding V → Type 0

@@ -5,6 +5,7 @@ ghost use Rattle.house.specs.Archiving.{coding};
 ghost use Rattle.law.specs.Law.{TheLaw, NeverLacking, LedgerReached};
 ghost use Rattle.law.specs.Examples.{Alike, Unlike, Crossing};
 ghost use Rattle.law.specs.Figures.{Figures};
+ghost use Rattle.law.specs.Performing.{RowsArchived};
 
 use values::value::Value;
 
@@ -23,6 +24,11 @@ pub fn shelf_never_lacks<V: Value>()
 // The ledger of a run keeps what every run of the ledger's own calls keeps.
 pub fn ledger_reached<V: Value>()
     ensures { LedgerReached (coding V.Value.bytes V.Value.kind V.Value.width) }
+{}
+
+// In a house that calls have led to, the archive that the code writes, which goes by the rows, is that of the answered jobs.
+pub fn rows_archived<V: Value>()
+    ensures { RowsArchived (coding V.Value.bytes V.Value.kind V.Value.width) }
 {}
 
 // Two runs of the same jobs in different orders have one archive.

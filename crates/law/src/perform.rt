@@ -79,11 +79,12 @@ fn dispatch<S: Shelf>(
 
 // Does any one of the nine calls. The archive gets the whole buffer, whatever length its call names; the other calls leave the buffer as it is.
 //
-// `told`, `after` and `buffer` say what it tells, how the house then stands, and what the buffer then holds.
+// `told`, `after` and `buffer` say what it tells, how the house then stands, and what the buffer then holds: for the archive, of which the code goes by the rows, by these.
 // `law` is the law of the house, whole: what holds of every run, from a newly built house through any of the nine calls, accepted or refused.
 // `own` says of reads what the law leaves out: when a read is told as own, and what it then tells.
 // `chain` says that the law speaks of this call: with it added, every run that leads to this house is a run that leads to the house as it then stands,
-// and what was told and what the buffer holds is what the rules of the run say. A newly built house is the start of a run: the contract of `House::new` and `begins` say so.
+// and what was told and what the buffer holds is what the rules of the run say. What is added of an archive is the call for a buffer of this length.
+// A newly built house is the start of a run: the contract of `House::new` and `begins` say so.
 pub fn perform<S: Shelf>(
     house: &mut House<S>,
     call: Call<S::Value>,

@@ -13,7 +13,7 @@ use Rattle.ledger.specs.declared.job.JobKind.{JobKind}
 use Rattle.ledger.specs.declared.job.State.TheVariants.{Answered, Ended}
 use Rattle.ledger.specs.declared.job.Read.{Read}
 use Rattle.ledger.specs.declared.job.Write.{Write}
-use Rattle.protocol.specs.Calls.{LedgerCall, call_open, call_read, call_write, call_hand_in, call-collect, call-close, call-withdraw, call_deliver, fault_of, done_by}
+use Rattle.protocol.specs.Calls.{LedgerCall, call_open, call_read, call_write, call_hand_in, call_collect, call_close, call_withdraw, call_deliver, fault_of, done_by}
 use Rattle.protocol.proofs.Lookups.{get_d_set}
 use Rattle.protocol.proofs.Matching.{Matched, invariants_of}
 use Rattle.protocol.proofs.Delivering.{delivered_by_cases}
@@ -48,9 +48,9 @@ core_after l (call_read j r) k x =
     cond (eqb k j && is_new_read (row l j) r) (record { kind = x.kind; reads = x.reads ++ record { «record» = r; version = newest l (row l j) r } ∷ []; writes = x.writes }) x
 core_after l (call_write j r p) k x = cond (eqb k j) (record { kind = x.kind; reads = x.reads; writes = with_entry x.writes r p }) x
 core_after l (call_hand_in j) k x = x
-core_after l (call-collect j) k x = x
-core_after l (call-close j) k x = x
-core_after l (call-withdraw j) k x = x
+core_after l (call_collect j) k x = x
+core_after l (call_close j) k x = x
+core_after l (call_withdraw j) k x = x
 core_after l (call_deliver j o) k x = x
 
 abbrev pub answers_after : LedgerModel → LedgerCall → List ℕ
@@ -58,9 +58,9 @@ answers_after l (call_open j s) = l.answered
 answers_after l (call_read j r) = l.answered
 answers_after l (call_write j r p) = l.answered
 answers_after l (call_hand_in j) = l.answered
-answers_after l (call-collect j) = cond (is_accepted (row l j).state) (j ∷ l.answered) l.answered
-answers_after l (call-close j) = j ∷ l.answered
-answers_after l (call-withdraw j) = l.answered
+answers_after l (call_collect j) = cond (is_accepted (row l j).state) (j ∷ l.answered) l.answered
+answers_after l (call_close j) = j ∷ l.answered
+answers_after l (call_withdraw j) = l.answered
 answers_after l (call_deliver j o) = l.answered
 
 entries_installed : (office : ℕ → ℕ) (l : LedgerModel) (o : ℕ) (xs : List Write) → entries (map (installed office l o) xs) ≡ entries xs
@@ -134,9 +134,9 @@ module _ {office : ℕ → ℕ} {ledger : LedgerModel} {q : List ℕ} (M : Match
     pub core_done : (c : LedgerCall) → fault_of offices office ledger c ≡ None → (k : ℕ) → core (row (done_by offices office ledger c) k) ≡ core_after ledger c k (core (row ledger k))
     core_done (call_open j s) f k = put_core j (newly_opened s) (λ y. record { kind = s; reads = y.reads; writes = y.writes }) (grind arith) (unopened_core s j (grind arith)) k
     core_done (call_hand_in j) f k = same_core j (handed_in office (row ledger j)) (grind arith) refl k
-    core_done (call-withdraw j) f k = same_core j (with_state (row ledger j) Ended) (grind arith) refl k
-    core_done (call-close j) f k = same_core j (with_state (row ledger j) Answered) (grind arith) refl k
-    core_done (call-collect j) f k = go (is_accepted (row ledger j).state)
+    core_done (call_withdraw j) f k = same_core j (with_state (row ledger j) Ended) (grind arith) refl k
+    core_done (call_close j) f k = same_core j (with_state (row ledger j) Answered) (grind arith) refl k
+    core_done (call_collect j) f k = go (is_accepted (row ledger j).state)
       where
         go : (t : Bool) → core (row (cond t (answer_done ledger j) (put_row ledger j (with_state (row ledger j) Ended))) k) ≡ core (row ledger k)
         go true = same_core j (with_state (row ledger j) Answered) (grind arith) refl k
@@ -178,12 +178,12 @@ module _ {office : ℕ → ℕ} {ledger : LedgerModel} {q : List ℕ} (M : Match
         go false = refl
     answers_done (call_write j r p) f = refl
     answers_done (call_hand_in j) f = refl
-    answers_done (call-collect j) f = go (is_accepted (row ledger j).state) refl
+    answers_done (call_collect j) f = go (is_accepted (row ledger j).state) refl
       where
         go : (t : Bool) → is_accepted (row ledger j).state ≡ t → (cond t (answer_done ledger j) (put_row ledger j (with_state (row ledger j) Ended))).answered ≡ cond t (j ∷ ledger.answered) ledger.answered
         go true e = answered_now j (grind arith) (grind arith)
         go false e = refl
-    answers_done (call-close j) f = answered_now j (grind arith) (grind arith)
-    answers_done (call-withdraw j) f = refl
+    answers_done (call_close j) f = answered_now j (grind arith) (grind arith)
+    answers_done (call_withdraw j) f = refl
     answers_done (call_deliver j o) f =
         delivered_by_cases office ledger j o (λ e. e.answered ≡ ledger.answered) refl (λ p e. refl) (λ v p e. refl) (λ p e. refl) (λ m p. refl) (row ledger j).state refl (exchange (row ledger j) o).waiting refl

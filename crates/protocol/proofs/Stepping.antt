@@ -7,7 +7,7 @@ use Rattle.ledger.specs.Model.{LedgerModel, idle, unused, new_ledger, no_row, ex
 use Rattle.ledger.specs.Delivering.{holds}
 use Rattle.ledger.specs.declared.fault.LedgerFault.{LedgerFault}
 use Rattle.ledger.specs.declared.job.Version.{Version}
-use Rattle.protocol.specs.Calls.{LedgerCall, call_open, call_read, call_write, call_hand_in, call-collect, call-close, call-withdraw, call_deliver, job_of, fault_of, done_by, ledger_after, line_after, Reached, new, next}
+use Rattle.protocol.specs.Calls.{LedgerCall, call_open, call_read, call_write, call_hand_in, call_collect, call_close, call_withdraw, call_deliver, job_of, fault_of, done_by, ledger_after, line_after, Reached, new, next}
 use Rattle.protocol.proofs.Machine.{new_machine, start}
 use Rattle.protocol.proofs.Lookups.{in_replicate}
 use Rattle.protocol.proofs.Matching.{is_used, Orderly, RowMatches, RowsMatch, Matched, stays_matched}
@@ -24,9 +24,9 @@ module _ {office : ℕ → ℕ} {ledger : LedgerModel} {q : List ℕ} (M : Match
   done_matched (call_read j r) f = read_matched M j r f
   done_matched (call_write j r p) f = write_matched M j r p f
   done_matched (call_hand_in j) f = hand_in_matched M few j f
-  done_matched (call-collect j) f = collect_matched M j f
-  done_matched (call-close j) f = close_matched M j f
-  done_matched (call-withdraw j) f = withdraw_matched M j f
+  done_matched (call_collect j) f = collect_matched M j f
+  done_matched (call_close j) f = close_matched M j f
+  done_matched (call_withdraw j) f = withdraw_matched M j f
   done_matched (call_deliver j o) f = deliver_matched M offices most j o f
 
   -- a refused call leaves the ledger: shown once for all calls

@@ -16,7 +16,7 @@ use Rattle.ledger.specs.declared.job.Write.{Write}
 use Rattle.ledger.specs.declared.job.Version.{Version}
 use Rattle.ledger.specs.declared.message.Outcome.TheVariants.{Commit, Abort}
 use Rattle.ledger.specs.declared.message.Message.TheVariants.{Prepare, Vote as VoteCast, Decision}
-use Rattle.protocol.specs.Calls.{LedgerCall, call_open, call_read, call_write, call_hand_in, call-collect, call-close, call-withdraw, call_deliver, fault_of, done_by}
+use Rattle.protocol.specs.Calls.{LedgerCall, call_open, call_read, call_write, call_hand_in, call_collect, call_close, call_withdraw, call_deliver, fault_of, done_by}
 use Rattle.protocol.proofs.Invariants.{may_install}
 use Rattle.protocol.proofs.Lookups.{getD_pushed}
 use Rattle.protocol.proofs.Matching.{phase_by, Matched, invariants_of}
@@ -102,9 +102,9 @@ module _ {office : ℕ → ℕ} {ledger : LedgerModel} {q : List ℕ} (M : Match
       go true x = refl
       go false x = refl
   placed_done P (call_hand_in j) f = same_records P (hand_in_done office ledger j) refl (λ r i l. writes_done (call_hand_in j) f (installer r i))
-  placed_done P (call-close j) f = same_records P (close_done ledger j) refl (λ r i l. writes_done (call-close j) f (installer r i))
-  placed_done P (call-withdraw j) f = same_records P (withdraw_done ledger j) refl (λ r i l. writes_done (call-withdraw j) f (installer r i))
-  placed_done P (call-collect j) f = same_records P (collect_done ledger j) (go (is_accepted (row ledger j).state)) (λ r i l. writes_done (call-collect j) f (installer r i))
+  placed_done P (call_close j) f = same_records P (close_done ledger j) refl (λ r i l. writes_done (call_close j) f (installer r i))
+  placed_done P (call_withdraw j) f = same_records P (withdraw_done ledger j) refl (λ r i l. writes_done (call_withdraw j) f (installer r i))
+  placed_done P (call_collect j) f = same_records P (collect_done ledger j) (go (is_accepted (row ledger j).state)) (λ r i l. writes_done (call_collect j) f (installer r i))
     where
       go : (b : Bool) → (cond b (answer_done ledger j) (put_row ledger j (with_state (row ledger j) Ended))).records ≡ ledger.records
       go true = refl
@@ -136,10 +136,10 @@ module _ {office : ℕ → ℕ} {ledger : LedgerModel} {q : List ℕ} (M : Match
   pub version_stands : (c : LedgerCall) → (r i : ℕ) → i < length (versions ledger r) → get_or (versions (done_by offices office ledger c) r) i no_version ≡ get_or (versions ledger r) i no_version
   version_stands (call_open j s) r i l = refl
   version_stands (call_hand_in j) r i l = refl
-  version_stands (call-close j) r i l = refl
-  version_stands (call-withdraw j) r i l = refl
+  version_stands (call_close j) r i l = refl
+  version_stands (call_withdraw j) r i l = refl
   version_stands (call_write j s p) r i l = refl
-  version_stands (call-collect j) r i l = go (is_accepted (row ledger j).state)
+  version_stands (call_collect j) r i l = go (is_accepted (row ledger j).state)
     where
       go : (b : Bool) → get_or (versions (cond b (answer_done ledger j) (put_row ledger j (with_state (row ledger j) Ended))) r) i no_version ≡ get_or (versions ledger r) i no_version
       go true = refl

@@ -15,7 +15,7 @@ pub data LedgerCall : Type 0 where
   call_open : ℕ → JobKind → LedgerCall
   call_read : (job «record» : ℕ) → LedgerCall
   call_write : (job «record» place : ℕ) → LedgerCall
-  call_hand_in call-collect call-close call-withdraw : ℕ → LedgerCall
+  call_hand_in call_collect call_close call_withdraw : ℕ → LedgerCall
   call_deliver : (job office : ℕ) → LedgerCall
 
 abbrev pub job_of : LedgerCall → ℕ
@@ -23,9 +23,9 @@ job_of (call_open j k) = j
 job_of (call_read j r) = j
 job_of (call_write j r p) = j
 job_of (call_hand_in j) = j
-job_of (call-collect j) = j
-job_of (call-close j) = j
-job_of (call-withdraw j) = j
+job_of (call_collect j) = j
+job_of (call_close j) = j
+job_of (call_withdraw j) = j
 job_of (call_deliver j o) = j
 
 -- `offices` is the number of offices, `office r` the office of record r
@@ -35,9 +35,9 @@ module _ (offices : ℕ) (office : ℕ → ℕ) where
   fault_of l (call_read j r) = read_fault l j r
   fault_of l (call_write j r p) = write_fault l j r
   fault_of l (call_hand_in j) = hand_in_fault l j
-  fault_of l (call-collect j) = collect_fault l j
-  fault_of l (call-close j) = close_fault l j
-  fault_of l (call-withdraw j) = withdraw_fault l j
+  fault_of l (call_collect j) = collect_fault l j
+  fault_of l (call_close j) = close_fault l j
+  fault_of l (call_withdraw j) = withdraw_fault l j
   fault_of l (call_deliver j o) = deliver_fault offices l j o
 
   -- what a call makes of the ledger if it is not refused
@@ -46,9 +46,9 @@ module _ (offices : ℕ) (office : ℕ → ℕ) where
   done_by l (call_read j r) = read_done l j r
   done_by l (call_write j r p) = write_done l j r p
   done_by l (call_hand_in j) = hand_in_done office l j
-  done_by l (call-collect j) = collect_done l j
-  done_by l (call-close j) = close_done l j
-  done_by l (call-withdraw j) = withdraw_done l j
+  done_by l (call_collect j) = collect_done l j
+  done_by l (call_close j) = close_done l j
+  done_by l (call_withdraw j) = withdraw_done l j
   done_by l (call_deliver j o) = deliver_done office l j o
 
   abbrev pub ledger_after : LedgerModel → LedgerCall → LedgerModel
