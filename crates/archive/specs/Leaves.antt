@@ -1,7 +1,7 @@
 -- The leaves of the answered jobs, by their rows in the ledger and the values on the shelf; the archive's writer and the rules of the house cite it. Assumes nothing.
 use Rattle.std.specs.Prelude.{ℕ, suc, Bool, cond, ◌&&◌, List, [], ◌∷◌, Some, None, Option, nat_le}
 use Rattle.std.specs.List.{slice_get}
-use Rattle.bounded.specs.Searching.{any}
+use Rattle.std.specs.List.{list_any}
 use Rattle.ledger.specs.Model.{RowModel, is_answered}
 use Rattle.ledger.specs.declared.job.Write.{Write}
 use Rattle.history.specs.Histories.{LeafWrite, Leaf}
@@ -31,8 +31,8 @@ module _ {V : Type 0} where
 
 -- a shelf of so many values lacks one of these writes
 abbrev pub lacks_write : ℕ → List Write → Bool
-lacks_write count ws = any (λ w. nat_le count w.place) ws
+lacks_write count ws = list_any (λ w. nat_le count w.place) ws
 
 -- it lacks a write of one of these rows that is answered; no run meets that (`rows_archived` of the crate `law`)
 abbrev pub lacks_value : ℕ → List RowModel → Bool
-lacks_value count xs = any (λ x. is_answered x.state && lacks_write count x.writes) xs
+lacks_value count xs = list_any (λ x. is_answered x.state && lacks_write count x.writes) xs

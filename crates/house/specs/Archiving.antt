@@ -1,6 +1,6 @@
 -- The archive of a house by its answered jobs: its leaves, its bytes, what the call tells and what the buffer then holds. Runs and the law go by it; the code goes by `RowArchiving`. Assumes nothing.
 use Rattle.std.specs.Prelude.{ℕ, Bool, cond, List, ◌++◌, map, length, drop, Ok, Err, Result, nat_le, nat_lt}
-use Rattle.bounded.specs.Searching.{any}
+use Rattle.std.specs.List.{list_any}
 use Rattle.shelves.specs.declared.fault.ShelfFault.TheVariants.{NoSuchPlace}
 use Rattle.ledger.specs.Model.{row}
 use Rattle.history.specs.Histories.{Leaf}
@@ -32,7 +32,7 @@ module _ {V : Type 0} where
 
   -- the shelf lacks a value of an answered job, which no run meets
   abbrev pub lacks_value : HouseModel V → Bool
-  lacks_value m = any (λ j. any (λ w. nat_le (length m.items) w.place) (row m.ledger j).writes) m.ledger.answered
+  lacks_value m = list_any (λ j. list_any (λ w. nat_le (length m.items) w.place) (row m.ledger j).writes) m.ledger.answered
 
 module _ {V : Type 0} (C : Coding V) where
   abbrev pub house_archive : HouseModel V → List ℕ

@@ -1,6 +1,6 @@
 -- What a log says of jobs and records, by the calls and what they told alone; the newest event stands first. Assumes nothing.
 use Rattle.std.specs.Prelude.{◌≡◌, ℕ, ◌+◌, Bool, true, cond, not, ◌&&◌, ◌||◌, List, [], ◌∷◌, ◌++◌, map, Some, None, Ok, Err, Option, Result, ◌==◌, nat_eq}
-use Rattle.bounded.specs.Searching.{any}
+use Rattle.std.specs.List.{list_any}
 use Rattle.ledger.specs.declared.job.JobKind.{JobKind}
 use Rattle.ledger.specs.declared.job.JobKind.TheVariants.{Amendment}
 use Rattle.history.specs.Histories.{Leaf, Outline}
@@ -12,7 +12,7 @@ use Rattle.house.specs.declared.call.Told.{Told}
 use Rattle.house.specs.declared.call.Told.TheVariants as told
 
 abbrev pub contains : List ℕ → ℕ → Bool
-contains xs x = any (λ y. nat_eq y x) xs
+contains xs x = list_any (λ y. nat_eq y x) xs
 
 -- of a list with the newest first: what stands before, that is behind, the first occurrence
 abbrev pub before : List ℕ → ℕ → List ℕ
@@ -132,7 +132,7 @@ module _ {V : Type 0} where
   is_earlier_in log i j = contains (before (answered_in log) j) i
 
   abbrev pub wrote_in : List (Event V) → ℕ → ℕ → Bool
-  wrote_in log j r = any (λ (x : ℕ × V). nat_eq x.0 r) (writes_in log j)
+  wrote_in log j r = list_any (λ (x : ℕ × V). nat_eq x.0 r) (writes_in log j)
 
   -- read or wrote
   abbrev pub used_in : List (Event V) → ℕ → ℕ → Bool

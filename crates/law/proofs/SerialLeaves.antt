@@ -3,7 +3,7 @@ use Rattle.std.proofs.Common.{◌≡◌, ℕ, suc, ◌+◌, ◌<◌, Bool, true,
 use Rattle.std.specs.List.{AllByRecursion}
 use Rattle.std.proofs.ByRecursion.{All-weaker}
 use Rattle.std.proofs.lemmas.Bool.{eqb-true, eq-eqb, ne_eqb}
-use Rattle.bounded.specs.Searching.{any}
+use Rattle.std.specs.List.{list_any}
 use Rattle.ledger.specs.Limits.{last_job}
 use Rattle.ledger.specs.Model.{LedgerModel, row, has_written}
 use Rattle.ledger.specs.declared.job.State.TheVariants.{Answered}
@@ -111,7 +111,7 @@ module _ {V : Type 0} where
     outline_is j = λ i. record { job = j; kind = T.kinds j i; read = T.reads j i; written = written_is j i }
 
     leaf_wrote : (j r : ℕ) → histories.wrote (job_leaf m j) r ≡ wrote_in log j r
-    leaf_wrote j r = sym (any_map (λ (x : ℕ × V). eqb x.0 r) (λ (w : LeafWrite V). (w.«record», w.value)) (job_leaf m j).writes) ∙ ap (any (λ (x : ℕ × V). eqb x.0 r)) (written_is j)
+    leaf_wrote j r = sym (any_map (λ (x : ℕ × V). eqb x.0 r) (λ (w : LeafWrite V). (w.«record», w.value)) (job_leaf m j).writes) ∙ ap (list_any (λ (x : ℕ × V). eqb x.0 r)) (written_is j)
 
     leaf_used : (j r : ℕ) → histories.used (job_leaf m j) r ≡ used_in log j r
     leaf_used j r =
@@ -119,7 +119,7 @@ module _ {V : Type 0} where
         ∙ ap (λ b. contains (reads_in log j) r || b) (leaf_wrote j r)
 
     pub row_wrote : (j r : ℕ) → wrote_in log j r ≡ has_written (row l j).writes r
-    row_wrote j r = ap (any (λ (x : ℕ × V). eqb x.0 r)) (sym (T.writes j)) ∙ any_valued vs (entries (row l j).writes) r (T.within j) ∙ sym (has_written_entry (row l j).writes r)
+    row_wrote j r = ap (list_any (λ (x : ℕ × V). eqb x.0 r)) (sym (T.writes j)) ∙ any_valued vs (entries (row l j).writes) r (T.within j) ∙ sym (has_written_entry (row l j).writes r)
 
     leaf_count : (js : List ℕ) (r : ℕ) → writer_count (map (job_leaf m) js) r ≡ writers l js r
     leaf_count [] r = refl

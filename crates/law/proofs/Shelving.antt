@@ -1,7 +1,7 @@
 -- No call of a run finds that the shelf lacks a place, and a long enough buffer gets the archive.
 use Rattle.std.proofs.Common.{◌≡◌, ℕ, ◌≤◌, Bool, true, false, cond, eqb, ltb, leb, List, [], ◌∷◌, length, Some, None, Ok, Err, Option, sym, refl, ap, ◌∙◌, arith}
 use Rattle.std.proofs.lemmas.Bool.{cond-false, le-ltb}
-use Rattle.bounded.specs.Searching.{any}
+use Rattle.std.specs.List.{list_any}
 use Rattle.ledger.specs.Model.{LedgerModel, row}
 use Rattle.ledger.specs.Opening.{open_fault, withdraw_fault}
 use Rattle.ledger.specs.Reading.{read_fault}
@@ -42,7 +42,7 @@ module _ {V : Type 0} (p : Progress V) (T : Tied p) where
   pub none_lacked : lacks_value m ≡ false
   none_lacked = go l.answered
     where
-      go : (js : List ℕ) → any (λ j. any (λ w. leb (length vs) w.place) (row l j).writes) js ≡ false
+      go : (js : List ℕ) → list_any (λ j. list_any (λ w. leb (length vs) w.place) (row l j).writes) js ≡ false
       go [] = refl
       go (j ∷ js) = let i = go js in let z = none_missing vs (row l j).writes (T.within j) in rw (z, i) refl
 

@@ -1,10 +1,10 @@
+pub mod Tables
 pub mod Views
 pub mod Positions
-pub mod FirstReadings
 pub mod Refusals
+pub mod Searches
 pub mod MapsInPlace
 pub mod Installations
 pub mod Conflicts
 pub mod Holds
 pub mod Preceding
-pub mod AnswerLists

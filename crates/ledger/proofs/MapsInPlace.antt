@@ -1,7 +1,7 @@
 -- A loop that writes f i x over the element x at each place i, told its index: what one turn makes of the list. Assumes nothing.
 use Rattle.std.proofs.Common.{◌≡◌, ℕ, zero, suc, ◌+◌, ◌<◌, ◌≤◌, List, [], ◌∷◌, ◌++◌, length, get_or, take, drop, set, ap, ◌∙◌, append-nil, arith}
 use Rattle.std.proofs.lemmas.List.{take_all, drop_all}
-use Rattle.bounded.specs.Searching.{map_indexed}
+use Rattle.ledger.specs.Searching.{map_indexed}
 
 module _ {X : Type 0} (f : ℕ → X → X) where
   -- the first i elements are changed, where the first of all has index k

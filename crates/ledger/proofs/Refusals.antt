@@ -1,5 +1,5 @@
 -- What a call of the ledger learns of its checks, one after the other, and of what it told. Assumes nothing.
-use Rattle.std.proofs.Common.{◌≡◌, ℕ, ◌<◌, ◌≤◌, Bool, true, false, not, ltb, get_or, IsErrAnd, Some, None, Ok, Err, Option, Result, refl, ap, ◌∙◌, subst, le-ltb, lt-ltb}
+use Rattle.std.proofs.Common.{◌≡◌, ℕ, ◌<◌, ◌≤◌, Bool, true, false, not, ltb, length, get_or, IsErrAnd, Some, None, Ok, Err, Option, Result, refl, ap, ◌∙◌, subst, le-ltb, lt-ltb}
 use Rattle.ledger.specs.Delivering.{deliver_fault, waits}
 use Rattle.ledger.specs.Faults.{told, guarded, refuse_if}
 use Rattle.ledger.specs.Limits.{last_job, last_record}
@@ -9,7 +9,8 @@ use Rattle.ledger.specs.View.{view, row_view}
 use Rattle.ledger.specs.declared.fault.LedgerFault.{LedgerFault}
 use Rattle.ledger.specs.declared.fault.LedgerFault.TheVariants as fault
 use Rattle.ledger.specs.declared.ledger.Ledger.{Ledger}
-use Rattle.ledger.proofs.Views.{no_table_row, row_of_view}
+use Rattle.ledger.specs.declared.job.Row.{Row}
+use Rattle.ledger.proofs.Views.{row_of_view}
 
 -- a call that told a refusal was refused for it
 pub refused_for : {Fault A : Type 0} (why : Option Fault) (answer : A) (f : Fault) → Err f ≡ told why answer → why ≡ Some f
@@ -40,19 +41,19 @@ guarded_done why before after e = cc
 
 -- past the check of the job's number the checks are those of the row
 pub known_job :
-    (checks : RowModel → Option LedgerFault) (l : Ledger) (j : ℕ) → j ≤ last_job →
-    refuse_if (ltb last_job j) fault.JobNumber (checks (row (view l) j)) ≡ checks (row_view (get_or l.rows j no_table_row))
-known_job checks l j h =
-    ap (λ t. refuse_if t fault.JobNumber (checks (row (view l) j))) (le-ltb last_job j h) ∙ ap checks (row_of_view l j)
+    (checks : RowModel → Option LedgerFault) (l : Ledger) (j : ℕ) (d : Row) → j < length l.rows → j ≤ last_job →
+    refuse_if (ltb last_job j) fault.JobNumber (checks (row (view l) j)) ≡ checks (row_view (get_or l.rows j d))
+known_job checks l j d q h =
+    ap (λ t. refuse_if t fault.JobNumber (checks (row (view l) j))) (le-ltb last_job j h) ∙ ap checks (row_of_view l j d q)
 
 -- past the checks of the job's and the record's numbers too
 pub known_job_and_record :
-    (checks : RowModel → Option LedgerFault) (l : Ledger) (j r : ℕ) → j ≤ last_job → r ≤ last_record →
+    (checks : RowModel → Option LedgerFault) (l : Ledger) (j r : ℕ) (d : Row) → j < length l.rows → j ≤ last_job → r ≤ last_record →
     refuse_if (ltb last_job j) fault.JobNumber (refuse_if (ltb last_record r) fault.RecordNumber (checks (row (view l) j)))
-    ≡ checks (row_view (get_or l.rows j no_table_row))
-known_job_and_record checks l j r h k =
-    known_job (λ x. refuse_if (ltb last_record r) fault.RecordNumber (checks x)) l j h
-    ∙ ap (λ t. refuse_if t fault.RecordNumber (checks (row_view (get_or l.rows j no_table_row)))) (le-ltb last_record r k)
+    ≡ checks (row_view (get_or l.rows j d))
+known_job_and_record checks l j r d q h k =
+    known_job (λ x. refuse_if (ltb last_record r) fault.RecordNumber (checks x)) l j d q h
+    ∙ ap (λ t. refuse_if t fault.RecordNumber (checks (row_view (get_or l.rows j d)))) (le-ltb last_record r k)
 
 -- the checks of an open amendment, and what follows them
 abbrev pub amendment_checks : RowModel → Option LedgerFault → Option LedgerFault

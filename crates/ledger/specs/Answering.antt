@@ -1,6 +1,7 @@
 -- The rules of collect and close, and of who holds a job back; `src/answering.rt` and `src/order.rt` cite them. Assumes nothing.
 use Rattle.std.specs.Prelude.{ℕ, ◌+◌, Bool, cond, not, ◌&&◌, ◌||◌, List, ◌∷◌, length, Some, None, Option, ◌==◌, nat_le, nat_lt, slice_set}
-use Rattle.bounded.specs.Searching.{any, any_indexed}
+use Rattle.std.specs.List.{list_any}
+use Rattle.ledger.specs.Searching.{any_indexed}
 use Rattle.ledger.specs.Limits.{last_job}
 use Rattle.ledger.specs.Faults.{refuse_if}
 use Rattle.ledger.specs.Model.{RowModel, LedgerModel, row, put_row, with_state, is_amendment, is_open, is_accepted, first_unseen, installed_version}
@@ -22,7 +23,7 @@ precedes_in u t r =
     (nat_lt 0 (first_unseen u.reads r) && nat_le (first_unseen u.reads r) (installed_version t.writes r))
 
 abbrev pub precedes : RowModel → RowModel → Bool
-precedes u t = any (λ z. precedes_in u t z.«record») u.writes || any (λ z. precedes_in u t z.«record») u.reads
+precedes u t = list_any (λ z. precedes_in u t z.«record») u.writes || list_any (λ z. precedes_in u t z.«record») u.reads
 
 -- an open inspection, or an accepted job that is not yet answered
 abbrev pub is_pending : RowModel → Bool
@@ -45,7 +46,7 @@ collect_state_fault Ended waiting held = Some fault.WrongState
 abbrev pub collect_fault : LedgerModel → ℕ → Option LedgerFault
 collect_fault l j =
     known_job l j
-    (refuse_if (not (is_amendment (row l j).kind)) fault.WrongKind (collect_state_fault (row l j).state (any waits (row l j).exchanges) (is_held l j)))
+    (refuse_if (not (is_amendment (row l j).kind)) fault.WrongKind (collect_state_fault (row l j).state (list_any waits (row l j).exchanges) (is_held l j)))
 
 -- the list of answers has room for every job number; that a longer one is never wanted is shown of every run
 abbrev pub with_answer : List ℕ → ℕ → List ℕ

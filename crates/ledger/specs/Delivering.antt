@@ -1,6 +1,7 @@
 -- The rules of hand in and deliver: two-phase commit between a job and the offices of its records. `office r` is the office of record r. Assumes nothing.
 use Rattle.std.specs.Prelude.{ℕ, suc, Bool, true, false, cond, not, ◌&&◌, ◌||◌, List, [], ◌∷◌, ◌++◌, map, length, is_some, Some, None, Option, ◌==◌, nat_eq, nat_lt, slice_set}
-use Rattle.bounded.specs.Searching.{any, any_indexed, map_indexed}
+use Rattle.std.specs.List.{list_any}
+use Rattle.ledger.specs.Searching.{any_indexed, map_indexed}
 use Rattle.ledger.specs.Limits.{last_job, most_versions}
 use Rattle.ledger.specs.Faults.{refuse_if}
 use Rattle.ledger.specs.Model.{RowModel, LedgerModel, row, versions, exchange, put_row, idle, all_idle, is_amendment, is_never_opened, has_written, written_place, is_listed}
@@ -86,7 +87,7 @@ decided m x =
 
 -- the last vote is noted when no message of the job waits any more
 abbrev pub counted : RowModel → RowModel
-counted x = cond (any waits x.exchanges) x (decided (first_refusal x.exchanges) x)
+counted x = cond (list_any waits x.exchanges) x (decided (first_refusal x.exchanges) x)
 
 abbrev pub is_empty : {A : Type 0} → List A → Bool
 is_empty [] = true
@@ -100,7 +101,7 @@ module _ (office : ℕ → ℕ) where
   -- hand in
 
   abbrev pub is_concerned : RowModel → ℕ → Bool
-  is_concerned x o = any (λ y. nat_eq (office y.«record») o) x.reads || any (λ y. nat_eq (office y.«record») o) x.writes
+  is_concerned x o = list_any (λ y. nat_eq (office y.«record») o) x.reads || list_any (λ y. nat_eq (office y.«record») o) x.writes
 
   -- a prepare waits at every office of a listed record
   abbrev pub prepares : RowModel → List Exchange
@@ -120,18 +121,18 @@ module _ (office : ℕ → ℕ) where
   abbrev pub conflicts : RowModel → ℕ → RowModel → Bool
   conflicts x o y =
       holds (exchange y o) &&
-      (any (λ z. (office z.«record» == o) && is_listed y z.«record») x.writes ||
-      any (λ z. (office z.«record» == o) && has_written y.writes z.«record») x.reads)
+      (list_any (λ z. (office z.«record» == o) && is_listed y z.«record») x.writes ||
+      list_any (λ z. (office z.«record» == o) && has_written y.writes z.«record») x.reads)
 
   abbrev pub has_conflict : LedgerModel → ℕ → ℕ → Bool
   has_conflict l j o = any_indexed (λ k y. not (k == j) && conflicts (row l j) o y) 0 l.rows
 
   -- a record that the job read has a newer version than the listed one
   abbrev pub is_stale : LedgerModel → ℕ → ℕ → Bool
-  is_stale l j o = any (λ z. (office z.«record» == o) && not (z.version == length (versions l z.«record»))) (row l j).reads
+  is_stale l j o = list_any (λ z. (office z.«record» == o) && not (z.version == length (versions l z.«record»))) (row l j).reads
 
   abbrev pub is_full : LedgerModel → ℕ → ℕ → Bool
-  is_full l j o = any (λ z. (office z.«record» == o) && most_versions == length (versions l z.«record»)) (row l j).writes
+  is_full l j o = list_any (λ z. (office z.«record» == o) && most_versions == length (versions l z.«record»)) (row l j).writes
 
   abbrev pub vote_of : LedgerModel → ℕ → ℕ → Vote
   vote_of l j o = cond (has_conflict l j o) (Refused Conflict) (cond (is_stale l j o) (Refused Stale) (cond (is_full l j o) (Refused Full) Yes))

@@ -1,4 +1,6 @@
 pub mod Limits
+pub mod Searching
+pub mod Offices
 pub mod Faults
 pub mod Marks
 pub mod Model

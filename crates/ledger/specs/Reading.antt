@@ -1,6 +1,6 @@
 -- The rules of read; `src/reading.rt` cites them. Assumes nothing.
 use Rattle.std.specs.Prelude.{ℕ, zero, suc, pred, Bool, cond, not, ◌&&◌, [], ◌∷◌, ◌++◌, length, None, Option, ◌==◌, nat_le, nat_lt, slice_index_or}
-use Rattle.bounded.specs.Searching.{highest}
+use Rattle.ledger.specs.Searching.{highest}
 use Rattle.ledger.specs.Limits.{last_job, last_record, most_listed}
 use Rattle.ledger.specs.Faults.{refuse_if}
 use Rattle.ledger.specs.Model.{RowModel, LedgerModel, row, versions, put_row, is_amendment, is_never_opened, is_open, is_answered, first_unseen, has_written, written_place}

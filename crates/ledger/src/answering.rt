@@ -1,56 +1,53 @@
 // Collect and close: the client is told the end of a job. For a job that committed, that is its answer.
 ghost use Rattle.std.specs.Prelude.{◌≡◌};
-ghost use Rattle.bounded.specs.Searching.{any as some};
+ghost use Rattle.std.specs.List.{list_any};
 ghost use Rattle.ledger.specs.Answering.{answer_done, collect_fault, collect_done, collected, close_fault, close_done};
 ghost use Rattle.ledger.specs.Delivering.{waits};
 ghost use Rattle.ledger.specs.Faults.{told, guarded};
 ghost use Rattle.ledger.specs.Model.{row as row_of, put_row, with_state};
-ghost use Rattle.ledger.specs.View.{view, row_view, office_count};
+ghost use Rattle.ledger.specs.View.{view, row_view};
 ghost use Rattle.ledger.specs.declared.job.State.TheVariants.{Answered, Ended};
 
 use crate::fault::LedgerFault;
 use crate::job::{Collected, JobKind, Row, State};
 use crate::ledger::Ledger;
 use crate::limits::LAST_JOB;
-use crate::opening::end;
-use crate::waiting::any_waits;
 
-// A row's step at its answer.
-fn answer_row(row: &mut Row)
-    ensures { row_view row.new ≡ with_state (row_view row.old) Answered }
-{
-    row.state = State::Answered;
+impl Row {
+    // The row's step at its answer.
+    fn answer(&mut self)
+        ensures { row_view self.new ≡ with_state (row_view self.old) Answered }
+    {
+        self.state = State::Answered;
+    }
 }
 
 impl Ledger {
     fn is_waiting(&self, job: u8) -> bool
-        ensures { result ≡ some waits (row_of (view self.now) job).exchanges }
+        ensures { result ≡ list_any waits (row_of (view self.now) job).exchanges }
     {
-        any_waits(&self.rows[job as usize].exchanges[..])
+        self.rows[job as usize].is_waiting()
     }
 
     // The answer of a job: it joins the end of the answered jobs.
     fn answer(&mut self, job: u8)
-        ensures after { view self.new ≡ answer_done (view self.old) job }
-        ensures offices { office_count self.new ≡ office_count self.old }
+        ensures { view self.new ≡ answer_done (view self.old) job }
     {
-        answer_row(&mut self.rows[job as usize]);
-        let _ = self.answered.push(job);
+        self.rows[job as usize].answer();
+        let _ = self.answered.try_push(job);
     }
 
     // The end of a dropped job.
     fn finish(&mut self, job: u8)
-        ensures after { view self.new ≡ put_row (view self.old) job (with_state (row_of (view self.old) job) Ended) }
-        ensures offices { office_count self.new ≡ office_count self.old }
+        ensures { view self.new ≡ put_row (view self.old) job (with_state (row_of (view self.old) job) Ended) }
     {
-        end(&mut self.rows[job as usize]);
+        self.rows[job as usize].end();
     }
 
     // Tells the client of a decided job whose messages are all delivered: an accepted one is answered, unless another job holds it back.
     pub fn collect(&mut self, job: u64) -> Result<Collected, LedgerFault>
         ensures told { result ≡ told (collect_fault (view self.old) job) (collected (row_of (view self.old) job).state) }
         ensures after { view self.new ≡ guarded (collect_fault (view self.old) job) (view self.old) (collect_done (view self.old) job) }
-        ensures offices { office_count self.new ≡ office_count self.old }
     {
         if job > LAST_JOB {
             return Err(LedgerFault::JobNumber);
@@ -85,7 +82,6 @@ impl Ledger {
     pub fn close(&mut self, job: u64) -> Result<(), LedgerFault>
         ensures told { result ≡ told (close_fault (view self.old) job) tt }
         ensures after { view self.new ≡ guarded (close_fault (view self.old) job) (view self.old) (close_done (view self.old) job) }
-        ensures offices { office_count self.new ≡ office_count self.old }
     {
         if job > LAST_JOB {
             return Err(LedgerFault::JobNumber);

@@ -5,17 +5,17 @@ ghost use Rattle.ledger.specs.States.{state_number};
 
 use crate::limits::{MOST_LISTED, MOST_OFFICES};
 use crate::message::Exchange;
-use bounded::list::Bounded;
+use arrayvec::ArrayVec;
 
 // What a job may do: an amendment is an update transaction, an inspection a read-only one.
-#[derive(Clone, Copy)]
+#[derive(Clone, Copy, PartialEq, Eq, Debug)]
 pub enum JobKind {
     Amendment,
     Inspection,
 }
 
 // Why an office refused a job: the reason of an abort.
-#[derive(Clone, Copy)]
+#[derive(Clone, Copy, PartialEq, Eq, Debug)]
 pub enum Mark {
     // 1: another job holds a record in a way that excludes this one
     Conflict,
@@ -39,7 +39,7 @@ impl Mark {
 }
 
 // Where a job stands. The first state is that of a job number that no call has taken yet.
-#[derive(Clone, Copy)]
+#[derive(Clone, Copy, PartialEq, Eq, Debug)]
 pub enum State {
     NeverOpened,
     Open,
@@ -73,21 +73,23 @@ impl State {
 }
 
 // What collect tells of a job: its commit is answered, or an office refused it.
-#[derive(Clone, Copy)]
+// An enum of its own, since a refusal of the call is another thing: `Ok(Err(mark))` would name neither.
+#[derive(Clone, Copy, PartialEq, Eq, Debug)]
 pub enum Collected {
     Answered,
     Dropped(Mark),
 }
 
 // A listed read: the version of a record that the job was told; version 0 is blank.
-#[derive(Clone, Copy)]
+#[derive(Clone, Copy, PartialEq, Eq, Debug, Default)]
 pub struct Read {
     pub record: u8,
     pub version: u8,
 }
 
 // A listed write: where the value lies on the shelf, and the version that it became, or 0 before that.
-#[derive(Clone, Copy)]
+// A version is a number throughout and 0 the one before the first, since the rules compare versions and the archive writes them as they are.
+#[derive(Clone, Copy, PartialEq, Eq, Debug, Default)]
 pub struct Write {
     pub record: u8,
     pub place: u64,
@@ -95,18 +97,18 @@ pub struct Write {
 }
 
 // An installed version of a record: which job wrote it, and where its value lies on the shelf.
-#[derive(Clone, Copy)]
+#[derive(Clone, Copy, PartialEq, Eq, Debug, Default)]
 pub struct Version {
     pub job: u8,
     pub place: u64,
 }
 
 // All that the ledger keeps of one job. Both lists are in the order of first use.
-#[derive(Clone, Copy)]
+#[derive(Drop)]
 pub struct Row {
     pub kind: JobKind,
     pub state: State,
-    pub reads: Bounded<Read, MOST_LISTED>,
-    pub writes: Bounded<Write, MOST_LISTED>,
+    pub reads: ArrayVec<Read, MOST_LISTED>,
+    pub writes: ArrayVec<Write, MOST_LISTED>,
     pub exchanges: [Exchange; MOST_OFFICES],
 }

@@ -1,80 +1,88 @@
 // Look-ups in a job's two lists.
-ghost use Rattle.std.specs.Prelude.{◌≡◌, ◌≤◌, length, if◌then◌else◌, Some, None, nat_eq};
-ghost use Rattle.bounded.specs.Searching.{position as place_of};
+ghost use Rattle.std.specs.Prelude.{◌≡◌, ℕ, ◌<◌, length, if◌then◌else◌, IfSome, Some, None, nat_eq};
+ghost use Rattle.std.specs.List.{find, position};
 ghost use Rattle.ledger.specs.Lookups.{unseen_after};
-ghost use Rattle.ledger.specs.Model.{first_unseen, has_written, installed_version, written_place};
+ghost use Rattle.ledger.specs.Model.{first_unseen, has_written, installed_version, is_listed as listed, written_place};
+ghost use Rattle.ledger.specs.View.{row_view};
 
-use crate::job::{Read, Write};
-use bounded::{Predicate, any, position};
+use crate::job::{Read, Row, Write};
 
-// Whether an entry is of a record.
-#[derive(Clone, Copy)]
-pub struct IsOf {
-    record: u8,
+// An entry of one of a job's two lists: it is of one record.
+pub trait Entry {
+    // the record's number
+    ghost record_of: { Self → ℕ };
+
+    fn record(&self) -> u8
+        ensures { result ≡ record_of self.now };
 }
 
-impl Predicate<Read> for IsOf {
-    ghost passes = { λ p x. nat_eq x.«record» p.«record» };
+impl Entry for Read {
+    ghost record_of = { λ read. read.«record» };
 
-    fn test(&self, x: &Read) -> bool {
-        x.record == self.record
+    fn record(&self) -> u8 {
+        self.record
     }
 }
 
-impl Predicate<Write> for IsOf {
-    ghost passes = { λ p x. nat_eq x.«record» p.«record» };
+impl Entry for Write {
+    ghost record_of = { λ write. write.«record» };
 
-    fn test(&self, x: &Write) -> bool {
-        x.record == self.record
+    fn record(&self) -> u8 {
+        self.record
     }
+}
+
+// The first entry of a record.
+fn entry_of<E: Entry + Copy>(entries: &[E], record: u8) -> Option<E>
+    ensures { result ≡ find (λ x. nat_eq (E.record_of x) «record») entries.now }
+{
+    entries
+        .iter()
+        .copied()
+        .find(|entry| entry.record() == record)
 }
 
 // The version at which a record is listed as read.
 pub(crate) fn listed_version(reads: &[Read], record: u8) -> Option<u8>
     ensures { unseen_after result ≡ first_unseen reads.now «record» }
 {
-    let index = position(reads, &IsOf { record });
-    if index < reads.len() {
-        Some(reads[index].version)
-    } else {
-        None
-    }
+    entry_of(reads, record).map(|read| read.version)
 }
 
-// Where in the list a record is listed as written, or the length of the list.
-pub(crate) fn write_index(writes: &[Write], record: u8) -> usize
-    ensures value { result ≡ place_of (λ x. nat_eq x.«record» «record») writes.now }
-    ensures bound { result ≤ length writes.now }
+// The index of the first write of a record.
+pub(crate) fn write_index(writes: &[Write], record: u8) -> Option<usize>
+    ensures value { result ≡ position (λ x. nat_eq x.«record» «record») writes.now }
+    ensures bound { IfSome result (λ i. i < length writes.now) }
 {
-    position(writes, &IsOf { record })
+    writes.iter().position(|write| write.record == record)
 }
 
 pub(crate) fn is_written(writes: &[Write], record: u8) -> bool
     ensures { result ≡ has_written writes.now «record» }
 {
-    any(writes, &IsOf { record })
+    entry_of(writes, record).is_some()
 }
 
 // The place of the value that a job has itself written to a record.
 pub(crate) fn own_place(writes: &[Write], record: u8) -> Option<u64>
     ensures { result ≡ (if has_written writes.now «record» then Some (written_place writes.now «record») else None) }
 {
-    let index = write_index(writes, record);
-    if index < writes.len() {
-        Some(writes[index].place)
-    } else {
-        None
-    }
+    entry_of(writes, record).map(|write| write.place)
 }
 
 // The version that the listed write of a record became; 0 where the record is not listed, or not yet installed.
 pub(crate) fn installed_version(writes: &[Write], record: u8) -> u8
     ensures { result ≡ installed_version writes.now «record» }
 {
-    let index = write_index(writes, record);
-    if index < writes.len() {
-        writes[index].version
-    } else {
-        0
+    entry_of(writes, record).map_or(0, |write| write.version)
+}
+
+impl Row {
+    // Whether the job has read or written a record.
+    pub(crate) fn is_listed(&self, record: u8) -> bool
+        ensures { result ≡ listed (row_view self.now) «record» }
+    {
+        listed_version(self.reads.as_slice(), record).is_some()
+            || is_written(self.writes.as_slice(), record)
     }
 }

@@ -1,25 +1,27 @@
 // What passes between a job and an office: two-phase commit.
 ghost use Rattle.std.specs.Prelude.{◌≡◌};
+ghost use Rattle.ledger.specs.Delivering.{is_yes};
 ghost use Rattle.ledger.specs.Model.{idle as idle_exchange};
 
 use crate::job::Mark;
 
 // An office's answer to a prepare.
-#[derive(Clone, Copy)]
+// An enum of its own, since it lies in messages and rows, where `Ok(())` would not say that it is a vote.
+#[derive(Clone, Copy, PartialEq, Eq, Debug)]
 pub enum Vote {
     Yes,
     Refused(Mark),
 }
 
 // What was decided of a job.
-#[derive(Clone, Copy)]
+#[derive(Clone, Copy, PartialEq, Eq, Debug)]
 pub enum Outcome {
     Commit,
     Abort,
 }
 
 // A message that waits to be delivered: a prepare and a decision go to the office, a vote comes from it.
-#[derive(Clone, Copy)]
+#[derive(Clone, Copy, PartialEq, Eq, Debug)]
 pub enum Message {
     Prepare,
     Vote(Vote),
@@ -27,8 +29,8 @@ pub enum Message {
 }
 
 // Between one job and one office: the message that waits, and the vote that the office has cast and that still stands.
-// While a yes stands, the office holds the job's records.
-#[derive(Clone, Copy)]
+// While a yes stands, the office holds the job's records. At first nothing waits, and no vote stands.
+#[derive(Clone, Copy, PartialEq, Eq, Debug)]
 pub struct Exchange {
     pub waiting: Option<Message>,
     pub vote: Option<Vote>,

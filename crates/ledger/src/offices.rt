@@ -2,11 +2,11 @@
 ghost use Rattle.std.specs.Prelude.{◌≡◌, ◌%◌, ◌<◌, ◌≤◌};
 ghost use Rattle.ledger.specs.Limits.{offices_built};
 
-const MOST: u64 = 8;
+use crate::limits::MOST_OFFICES;
 
 // 1 to 8 offices, numbered from 0. An office is a participant of two-phase commit:
 // it owns the records whose number, divided by the number of offices, leaves the office's number.
-#[derive(Clone, Copy)]
+#[derive(Clone, Copy, PartialEq, Eq, Debug)]
 pub struct Offices {
     count: u8,
     ghost some: { 0 < count },
@@ -18,12 +18,8 @@ impl Offices {
     pub fn new(count: u64) -> Offices
         ensures { result.count ≡ offices_built count }
     {
-        if count == 0 {
-            Offices { count: 1 }
-        } else if count > MOST {
-            Offices { count: 8 }
-        } else {
-            Offices { count: count as u8 }
+        Offices {
+            count: count.clamp(1, MOST_OFFICES as u64) as u8,
         }
     }
 
@@ -35,7 +31,7 @@ impl Offices {
         self.count
     }
 
-    // The office that owns a record.
+    // The number of the office that owns a record.
     pub fn office_of(&self, record: u8) -> u8
         ensures { result ≡ «record» % self.now.count }
     {

@@ -1,183 +1,99 @@
 // A prepare: an office votes on a job, by its own records alone.
-ghost use Rattle.std.specs.Prelude.{◌≡◌, ◌%◌, ◌<◌, not, ◌&&◌, length, ◌==◌};
-ghost use Rattle.bounded.specs.Elements.{elements};
-ghost use Rattle.ledger.specs.Delivering.{is_yes as yes, holds as holding, with_exchange, vote_waits, conflicts as conflicting, has_conflict, is_stale, is_full, vote_of};
+ghost use Rattle.std.specs.Prelude.{◌≡◌, not, ◌&&◌, length, ◌==◌};
+ghost use Rattle.std.specs.List.{list_any};
+ghost use Rattle.ledger.specs.Delivering.{holds as holding, with_exchange, vote_waits, conflicts as conflicting, has_conflict, vote_of};
 ghost use Rattle.ledger.specs.Limits.{most_versions};
 ghost use Rattle.ledger.specs.Model.{row as row_of, versions, exchange as exchange_of, put_row, has_written, is_listed as listed};
-ghost use Rattle.ledger.specs.View.{view, row_view, office_count, office_of};
+ghost use Rattle.ledger.specs.Offices.{office_of};
+ghost use Rattle.ledger.specs.Searching.{any_indexed};
+ghost use Rattle.ledger.specs.View.{view, row_view};
 
 use crate::job::{Mark, Read, Row, Write};
 use crate::ledger::Ledger;
 use crate::limits::MOST_VERSIONS;
-use crate::lookups::{is_written, listed_version};
+use crate::lookups::is_written;
 use crate::message::{Exchange, Message, Vote};
-use crate::offices::Offices;
-use crate::voting::set_exchange;
-use bounded::{IndexedPredicate, Predicate, any, any_indexed};
+use crate::office::Office;
 
-// Whether a job has read or written a record.
-fn is_listed(row: &Row, record: u8) -> bool
-    ensures { result ≡ listed (row_view row.now) «record» }
+impl Row {
+    // Whether the office holds the job's records.
+    fn holds(&self, office: Office) -> bool
+        ensures { result ≡ holding (exchange_of (row_view self.now) office.number) }
+    {
+        let exchange = self.exchanges[office.index()];
+        matches!(exchange.vote, Some(Vote::Yes))
+    }
+}
+
+// Whether a write is to a record of the office that another job uses.
+fn writes_used(writes: &[Write], holder: &Row, office: Office) -> bool
+    ensures { result ≡ list_any (λ z. (office_of office.offices z.«record» == office.number) && listed (row_view holder.now) z.«record») writes.now }
 {
-    listed_version(row.reads.as_slice(), record).is_some()
-        || is_written(row.writes.as_slice(), record)
+    writes.iter().any(|write| office.owns(write.record) && holder.is_listed(write.record))
 }
 
-fn is_yes(vote: Option<Vote>) -> bool
-    ensures { result ≡ yes vote }
+// Whether a read is of a record of the office that another job writes.
+fn reads_written(reads: &[Read], holder: &Row, office: Office) -> bool
+    ensures { result ≡ list_any (λ z. (office_of office.offices z.«record» == office.number) && has_written (row_view holder.now).writes z.«record») reads.now }
 {
-    match vote {
-        Some(Vote::Yes) => true,
-        _ => false,
-    }
+    reads.iter().any(|read| {
+        office.owns(read.record) && is_written(holder.writes.as_slice(), read.record)
+    })
 }
 
-// Whether the office holds the job's records.
-fn holds(row: &Row, office: u8) -> bool
-    ensures { result ≡ holding (exchange_of (row_view row.now) office) }
+// Whether what another job holds at the office excludes this job: a write is excluded by any use, a read by a write.
+fn conflicts(row: &Row, holder: &Row, office: Office) -> bool
+    ensures { result ≡ conflicting (office_of office.offices) (row_view row.now) office.number (row_view holder.now) }
 {
-    let exchanges = &row.exchanges[..];
-    (office as usize) < exchanges.len() && is_yes(exchanges[office as usize].vote)
+    holder.holds(office)
+        && (writes_used(row.writes.as_slice(), holder, office)
+            || reads_written(row.reads.as_slice(), holder, office))
 }
 
-// Whether an entry is of a record of the office that another job holds in a way that excludes it:
-// a write is excluded by any use, a read by a write.
-#[derive(Clone, Copy)]
-pub struct IsExcluded<'a> {
-    holder: &'a Row,
-    offices: Offices,
-    office: u8,
-}
-
-impl Predicate<Write> for IsExcluded<'_> {
-    ghost passes = { λ p z. (z.«record» % p.offices.count == p.office) && listed (row_view p.holder.now) z.«record» };
-
-    fn test(&self, write: &Write) -> bool {
-        self.offices.office_of(write.record) == self.office && is_listed(self.holder, write.record)
-    }
-}
-
-impl Predicate<Read> for IsExcluded<'_> {
-    ghost passes = { λ p z. (z.«record» % p.offices.count == p.office) && has_written (elements p.holder.now.writes) z.«record» };
-
-    fn test(&self, read: &Read) -> bool {
-        self.offices.office_of(read.record) == self.office
-            && is_written(self.holder.writes.as_slice(), read.record)
-    }
-}
-
-// Whether what another job holds at the office excludes this job.
-fn conflicts(row: &Row, holder: &Row, offices: Offices, office: u8) -> bool
-    ensures { result ≡ conflicting (λ n. n % offices.count) (row_view row.now) office (row_view holder.now) }
+// Whether, of these rows, that of another job than this conflicts with the job's.
+fn some_conflicts(rows: &[Row], job: u8, row: &Row, office: Office) -> bool
+    ensures { result ≡ any_indexed (λ k x. not (k == job) && conflicting (office_of office.offices) (row_view row.now) office.number (row_view x)) 0 rows.now }
 {
-    if !holds(holder, office) {
-        return false;
-    }
-    let is_excluded = IsExcluded {
-        holder,
-        offices,
-        office,
-    };
-    any(row.writes.as_slice(), &is_excluded) || any(row.reads.as_slice(), &is_excluded)
-}
-
-// Whether a row is of another job, and conflicts with this job's.
-#[derive(Clone, Copy)]
-pub struct ConflictsWith<'a> {
-    job: u8,
-    row: &'a Row,
-    offices: Offices,
-    office: u8,
-}
-
-impl IndexedPredicate<Row> for ConflictsWith<'_> {
-    ghost passes = { λ p k y. not (k == p.job) && conflicting (λ n. n % p.offices.count) (row_view p.row.now) p.office (row_view y) };
-
-    fn test(&self, index: usize, x: &Row) -> bool {
-        index != self.job as usize && conflicts(self.row, x, self.offices, self.office)
-    }
-}
-
-// Whether a read of the office's records is not of the newest version.
-#[derive(Clone, Copy)]
-pub struct IsStale<'a> {
-    ledger: &'a Ledger,
-    office: u8,
-}
-
-impl Predicate<Read> for IsStale<'_> {
-    ghost passes = { λ p z. (office_of p.ledger.now z.«record» == p.office) && not (z.version == length (versions (view p.ledger.now) z.«record»)) };
-
-    fn test(&self, read: &Read) -> bool {
-        self.ledger.offices.office_of(read.record) == self.office
-            && read.version != self.ledger.version_count(read.record)
-    }
-}
-
-// Whether a write is to a record of the office that has all its versions.
-#[derive(Clone, Copy)]
-pub struct IsFull<'a> {
-    ledger: &'a Ledger,
-    office: u8,
-}
-
-impl Predicate<Write> for IsFull<'_> {
-    ghost passes = { λ p z. (office_of p.ledger.now z.«record» == p.office) && most_versions == length (versions (view p.ledger.now) z.«record») };
-
-    fn test(&self, write: &Write) -> bool {
-        self.ledger.offices.office_of(write.record) == self.office
-            && self.ledger.version_count(write.record) as usize == MOST_VERSIONS
-    }
+    rows.iter().enumerate().any(|(other, holder)| other != job as usize
+        && conflicts(row, holder, office))
 }
 
 impl Ledger {
-    fn has_conflict(&self, job: u8, office: u8) -> bool
-        ensures { result ≡ has_conflict (office_of self.now) (view self.now) job office }
+    // Whether another job holds, at the office, what excludes this one.
+    fn has_conflict(&self, job: u8, office: Office) -> bool
+        ensures { result ≡ has_conflict (office_of office.offices) (view self.now) job office.number }
     {
-        any_indexed(
-            &self.rows[..],
-            &ConflictsWith {
-                job,
-                row: &self.rows[job as usize],
-                offices: self.offices,
-                office,
-            },
-        )
+        some_conflicts(&self.rows, job, &self.rows[job as usize], office)
     }
 
-    fn is_stale(&self, job: u8, office: u8) -> bool
-        ensures { result ≡ is_stale (office_of self.now) (view self.now) job office }
+    // Whether a read of the office's records is not of the newest version.
+    fn is_stale(&self, reads: &[Read], office: Office) -> bool
+        ensures { result ≡ list_any (λ z. (office_of office.offices z.«record» == office.number) && not (z.version == length (versions (view self.now) z.«record»))) reads.now }
     {
-        any(
-            self.rows[job as usize].reads.as_slice(),
-            &IsStale {
-                ledger: self,
-                office,
-            },
-        )
+        reads.iter().any(|read| {
+            office.owns(read.record) && read.version != self.version_count(read.record)
+        })
     }
 
-    fn is_full(&self, job: u8, office: u8) -> bool
-        ensures { result ≡ is_full (office_of self.now) (view self.now) job office }
+    // Whether a written record of the office has all its versions.
+    fn is_full(&self, writes: &[Write], office: Office) -> bool
+        ensures { result ≡ list_any (λ z. (office_of office.offices z.«record» == office.number) && most_versions == length (versions (view self.now) z.«record»)) writes.now }
     {
-        any(
-            self.rows[job as usize].writes.as_slice(),
-            &IsFull {
-                ledger: self,
-                office,
-            },
-        )
+        writes.iter().any(|write| {
+            office.owns(write.record) && self.version_count(write.record) as usize == MOST_VERSIONS
+        })
     }
 
     // The marks are tried in their order.
-    fn vote_of(&self, job: u8, office: u8) -> Vote
-        ensures { result ≡ vote_of (office_of self.now) (view self.now) job office }
+    fn vote_of(&self, job: u8, office: Office) -> Vote
+        ensures { result ≡ vote_of (office_of office.offices) (view self.now) job office.number }
     {
+        let row = &self.rows[job as usize];
         if self.has_conflict(job, office) {
             Vote::Refused(Mark::Conflict)
-        } else if self.is_stale(job, office) {
+        } else if self.is_stale(row.reads.as_slice(), office) {
             Vote::Refused(Mark::Stale)
-        } else if self.is_full(job, office) {
+        } else if self.is_full(row.writes.as_slice(), office) {
             Vote::Refused(Mark::Full)
         } else {
             Vote::Yes
@@ -185,14 +101,11 @@ impl Ledger {
     }
 
     // Delivers a prepare to an office: its vote waits, and a yes holds the job's records.
-    pub(crate) fn prepare(&mut self, job: u8, office: u8)
-        requires { office < 8 }
-        ensures after { view self.new ≡ put_row (view self.old) job (with_exchange (row_of (view self.old) job) office (vote_waits (vote_of (office_of self.old) (view self.old) job office))) }
-        ensures offices { office_count self.new ≡ office_count self.old }
+    pub(crate) fn prepare(&mut self, job: u8, office: Office)
+        ensures { view self.new ≡ put_row (view self.old) job (with_exchange (row_of (view self.old) job) office.number (vote_waits (vote_of (office_of office.offices) (view self.old) job office.number))) }
     {
         let vote = self.vote_of(job, office);
-        set_exchange(
-            &mut self.rows[job as usize],
+        self.rows[job as usize].set_exchange(
             office,
             Exchange {
                 waiting: Some(Message::Vote(vote)),

@@ -1,21 +1,19 @@
 // Read: where the value lies that a read tells, and the listing of a first reading.
-ghost use Rattle.std.specs.Prelude.{◌≡◌, ◌<◌, ◌≤◌, map, length, if◌then◌else◌, Some, None, slice_index_or};
-ghost use Rattle.ledger.specs.Faults.{told, refuse_if};
+ghost use Rattle.std.specs.Prelude.{◌≡◌, ◌<◌, ◌≤◌, length, if◌then◌else◌, Some, None};
+ghost use Rattle.ledger.specs.Faults.{told};
 ghost use Rattle.ledger.specs.Limits.{most_listed};
-ghost use Rattle.ledger.specs.Model.{row as row_of, no_row, is_answered, is_never_opened, is_open};
+ghost use Rattle.ledger.specs.Model.{row as row_of};
 ghost use Rattle.ledger.specs.Reading.{newest as newest_of, newest_answered, is_new_read as is_new, read_fault, read_source, version_source, with_read, read_done, open_checked};
-ghost use Rattle.ledger.specs.View.{view, row_view, office_count};
-ghost use Rattle.ledger.specs.declared.fault.LedgerFault.TheVariants as fault;
+ghost use Rattle.ledger.specs.View.{view, row_view};
 
 use crate::fault::LedgerFault;
-use crate::job::{JobKind, Read, Row, State, Version};
+use crate::job::{JobKind, Read, Row, State};
 use crate::ledger::Ledger;
-use crate::limits::{JOBS, LAST_JOB, LAST_RECORD, MOST_LISTED};
-use crate::lookups::{is_written, listed_version, own_place};
-use bounded::{Predicate, highest};
+use crate::limits::{LAST_JOB, LAST_RECORD, MOST_LISTED};
+use crate::lookups::{listed_version, own_place};
 
 // Where a read finds its value.
-#[derive(Clone, Copy)]
+#[derive(Clone, Copy, PartialEq, Eq, Debug)]
 pub enum Source {
     // no version to tell
     Blank,
@@ -25,52 +23,35 @@ pub enum Source {
     Installed { version: u8, place: u64 },
 }
 
-// Whether the job of a version is answered.
-#[derive(Clone, Copy)]
-pub struct IsAnswered<'a> {
-    rows: &'a [Row; JOBS],
-}
+impl Row {
+    // A first reading: the job has neither read nor written the record.
+    fn is_new_read(&self, record: u8) -> bool
+        ensures { result ≡ is_new (row_view self.now) «record» }
+    {
+        !self.is_listed(record)
+    }
 
-impl Predicate<Version> for IsAnswered<'_> {
-    ghost passes = { λ p v. is_answered (slice_index_or (map row_view p.rows.now) v.job no_row).state };
-
-    fn test(&self, v: &Version) -> bool {
-        match self.rows[v.job as usize].state {
-            State::Answered => true,
-            _ => false,
+    // The checks of a read by the job's row, in their order.
+    fn check_read(&self, record: u8) -> Result<(), LedgerFault>
+        ensures { result ≡ told (open_checked (row_view self.now) «record») tt }
+    {
+        match self.state {
+            State::NeverOpened => Err(LedgerFault::NeverOpened),
+            State::Open if self.is_new_read(record) && self.reads.len() >= MOST_LISTED => {
+                Err(LedgerFault::TooManyReads)
+            }
+            State::Open => Ok(()),
+            _ => Err(LedgerFault::WrongState),
         }
     }
-}
 
-// A first reading: the job has neither read nor written the record.
-fn is_new_read(row: &Row, record: u8) -> bool
-    ensures { result ≡ is_new (row_view row.now) «record» }
-{
-    listed_version(row.reads.as_slice(), record).is_none()
-        && !is_written(row.writes.as_slice(), record)
-}
-
-// The checks of a read by the job's row, in their order.
-fn check_row(row: &Row, record: u8) -> Result<(), LedgerFault>
-    ensures { result ≡ told (open_checked (row_view row.now) «record») tt }
-{
-    match row.state {
-        State::NeverOpened => return Err(LedgerFault::NeverOpened),
-        State::Open => {}
-        _ => return Err(LedgerFault::WrongState),
+    // The row's step at a first reading.
+    fn list_version(&mut self, record: u8, version: u8)
+        requires { length (row_view self.old).reads < most_listed }
+        ensures { row_view self.new ≡ with_read (row_view self.old) «record» version }
+    {
+        self.reads.push(Read { record, version });
     }
-    if is_new_read(row, record) && row.reads.len() >= MOST_LISTED {
-        return Err(LedgerFault::TooManyReads);
-    }
-    Ok(())
-}
-
-// A row's step at a first reading.
-fn list_version(row: &mut Row, record: u8, version: u8)
-    requires { length (row_view row.old).reads < most_listed }
-    ensures { row_view row.new ≡ with_read (row_view row.old) «record» version }
-{
-    let _ = row.reads.push(Read { record, version });
 }
 
 impl Ledger {
@@ -79,8 +60,13 @@ impl Ledger {
         requires { «record» < 64 }
         ensures { result ≡ newest_answered (view self.now) «record» }
     {
-        let versions = self.records[record as usize].as_slice();
-        highest(versions, &IsAnswered { rows: &self.rows }) as u8
+        let mut newest = 0;
+        for (index, version) in self.records[record as usize].iter().enumerate() {
+            if self.rows[version.job as usize].is_answered() {
+                newest = index as u8 + 1;
+            }
+        }
+        newest
     }
 
     // The version that a first reading is told: an inspection sees answered jobs only.
@@ -101,13 +87,10 @@ impl Ledger {
         if version == 0 {
             return Source::Blank;
         }
-        let versions = self.records[record as usize].as_slice();
-        let index = version as usize - 1;
-        let place = if index < versions.len() {
-            versions[index].place
-        } else {
-            0
-        };
+        let place = self.records[record as usize]
+            .as_slice()
+            .get(version as usize - 1)
+            .map_or(0, |installed| installed.place);
         Source::Installed { version, place }
     }
 
@@ -135,7 +118,7 @@ impl Ledger {
             return Err(LedgerFault::RecordNumber);
         }
         let row = &self.rows[job as usize];
-        check_row(row, record as u8)?;
+        row.check_read(record as u8)?;
         Ok(self.source(row, record as u8))
     }
 
@@ -145,7 +128,7 @@ impl Ledger {
         ensures { result ≡ (if is_new (row_of (view self.now) job) «record» then Some (newest_of (view self.now) (row_of (view self.now) job) «record») else None) }
     {
         let row = &self.rows[job as usize];
-        if is_new_read(row, record) {
+        if row.is_new_read(record) {
             Some(self.newest(row, record))
         } else {
             None
@@ -155,11 +138,10 @@ impl Ledger {
     // Lists a first reading; the read has been checked.
     pub fn list_read(&mut self, job: u64, record: u64)
         requires { read_fault (view self.old) job «record» ≡ None }
-        ensures after { view self.new ≡ read_done (view self.old) job «record» }
-        ensures offices { office_count self.new ≡ office_count self.old }
+        ensures { view self.new ≡ read_done (view self.old) job «record» }
     {
         if let Some(version) = self.first_reading(job as u8, record as u8) {
-            list_version(&mut self.rows[job as usize], record as u8, version);
+            self.rows[job as usize].list_version(record as u8, version);
         }
     }
 }

@@ -1,14 +1,15 @@
 // Votes: each is noted, and the last one decides the job.
-ghost use Rattle.std.specs.Prelude.{◌≡◌, ◌<◌, map};
-ghost use Rattle.ledger.specs.Delivering.{refusal as refusal_of, first_refusal as first_refusal_of, decided_state as decided_state_of, outcome as outcome_of, decision_waits, decided, with_exchange, vote_noted, counted};
+ghost use Rattle.std.specs.Prelude.{◌≡◌, map};
+ghost use Rattle.std.specs.List.{list_any};
+ghost use Rattle.ledger.specs.Delivering.{refusal as refusal_of, first_refusal as first_refusal_of, decided_state as decided_state_of, outcome as outcome_of, decision_waits, decided, with_exchange, vote_noted, counted, waits};
 ghost use Rattle.ledger.specs.Model.{row as row_of, put_row};
-ghost use Rattle.ledger.specs.View.{view, row_view, office_count};
+ghost use Rattle.ledger.specs.View.{view, row_view};
 
 use crate::job::{Mark, Row, State};
 use crate::ledger::Ledger;
 use crate::limits::MOST_OFFICES;
 use crate::message::{Exchange, Message, Outcome, Vote};
-use crate::waiting::any_waits;
+use crate::office::Office;
 
 fn refusal(vote: Option<Vote>) -> Option<Mark>
     ensures { result ≡ refusal_of vote }
@@ -34,10 +35,7 @@ fn first_refusal(exchanges: &[Exchange]) -> Option<Mark>
 fn decided_state(refusal: Option<Mark>) -> State
     ensures { result ≡ decided_state_of refusal }
 {
-    match refusal {
-        None => State::Accepted,
-        Some(mark) => State::Dropped(mark),
-    }
+    refusal.map_or(State::Accepted, State::Dropped)
 }
 
 fn outcome(refusal: Option<Mark>) -> Outcome
@@ -53,12 +51,9 @@ fn outcome(refusal: Option<Mark>) -> Outcome
 fn with_decision(exchange: Exchange, outcome: Outcome) -> Exchange
     ensures { result ≡ decision_waits outcome exchange }
 {
-    match exchange.vote {
-        None => Exchange::idle(),
-        Some(_) => Exchange {
-            waiting: Some(Message::Decision(outcome)),
-            vote: exchange.vote,
-        },
+    Exchange {
+        waiting: exchange.vote.map(|_| Message::Decision(outcome)),
+        vote: exchange.vote,
     }
 }
 
@@ -70,48 +65,54 @@ fn send_decision(exchanges: &mut [Exchange; MOST_OFFICES], outcome: Outcome)
     }
 }
 
-// A row's step at the last vote.
-fn decide(row: &mut Row)
-    ensures { row_view row.new ≡ decided (first_refusal_of (row_view row.old).exchanges) (row_view row.old) }
-{
-    let refusal = first_refusal(&row.exchanges[..]);
-    send_decision(&mut row.exchanges, outcome(refusal));
-    row.state = decided_state(refusal);
-}
+impl Row {
+    // Whether a message of the job waits.
+    pub(crate) fn is_waiting(&self) -> bool
+        ensures { result ≡ list_any waits (row_view self.now).exchanges }
+    {
+        self.exchanges
+            .iter()
+            .any(|exchange| exchange.waiting.is_some())
+    }
 
-// A row's step at any message: how the job stands with one office.
-pub(crate) fn set_exchange(row: &mut Row, office: u8, exchange: Exchange)
-    requires { office < 8 }
-    ensures { row_view row.new ≡ with_exchange (row_view row.old) office exchange }
-{
-    row.exchanges[office as usize] = exchange;
-}
+    // The row's step at the last vote.
+    fn decide(&mut self)
+        ensures { row_view self.new ≡ decided (first_refusal_of (row_view self.old).exchanges) (row_view self.old) }
+    {
+        let refusal = first_refusal(&self.exchanges);
+        send_decision(&mut self.exchanges, outcome(refusal));
+        self.state = decided_state(refusal);
+    }
 
-// A row's step at a vote.
-fn count_vote(row: &mut Row, office: u8, vote: Vote)
-    requires { office < 8 }
-    ensures { row_view row.new ≡ counted (with_exchange (row_view row.old) office (vote_noted vote)) }
-{
-    set_exchange(
-        row,
-        office,
-        Exchange {
-            waiting: None,
-            vote: Some(vote),
-        },
-    );
-    if !any_waits(&row.exchanges[..]) {
-        decide(row);
+    // The row's step at any message: how the job stands with one office.
+    pub(crate) fn set_exchange(&mut self, office: Office, exchange: Exchange)
+        ensures { row_view self.new ≡ with_exchange (row_view self.old) office.number exchange }
+    {
+        self.exchanges[office.index()] = exchange;
+    }
+
+    // The row's step at a vote.
+    fn count_vote(&mut self, office: Office, vote: Vote)
+        ensures { row_view self.new ≡ counted (with_exchange (row_view self.old) office.number (vote_noted vote)) }
+    {
+        self.set_exchange(
+            office,
+            Exchange {
+                waiting: None,
+                vote: Some(vote),
+            },
+        );
+        if !self.is_waiting() {
+            self.decide();
+        }
     }
 }
 
 impl Ledger {
     // Delivers an office's vote to a job.
-    pub(crate) fn note_vote(&mut self, job: u8, office: u8, vote: Vote)
-        requires { office < 8 }
-        ensures after { view self.new ≡ put_row (view self.old) job (counted (with_exchange (row_of (view self.old) job) office (vote_noted vote))) }
-        ensures offices { office_count self.new ≡ office_count self.old }
+    pub(crate) fn note_vote(&mut self, job: u8, office: Office, vote: Vote)
+        ensures { view self.new ≡ put_row (view self.old) job (counted (with_exchange (row_of (view self.old) job) office.number (vote_noted vote))) }
     {
-        count_vote(&mut self.rows[job as usize], office, vote);
+        self.rows[job as usize].count_vote(office, vote);
     }
 }

@@ -1,11 +1,10 @@
 // Write: what the ledger checks before the value goes to the shelf, and the place that it lists afterwards.
-ghost use Rattle.std.specs.Prelude.{◌≡◌, ◌≤◌, false, not, ◌&&◌, length, None, nat_le};
-ghost use Rattle.bounded.specs.Elements.{elements};
+ghost use Rattle.std.specs.Prelude.{◌≡◌, false, not, ◌&&◌, length, None, nat_le};
 ghost use Rattle.ledger.specs.Faults.{told, refuse_if};
 ghost use Rattle.ledger.specs.Limits.{most_listed};
-ghost use Rattle.ledger.specs.Model.{row as row_of, has_written};
-ghost use Rattle.ledger.specs.View.{view, row_view, office_count};
-ghost use Rattle.ledger.specs.Writing.{write_fault, write_done, with_write, with_place};
+ghost use Rattle.ledger.specs.Model.{has_written};
+ghost use Rattle.ledger.specs.View.{view, row_view};
+ghost use Rattle.ledger.specs.Writing.{write_fault, write_done, with_write};
 ghost use Rattle.ledger.specs.declared.fault.LedgerFault.TheVariants as fault;
 
 use crate::fault::LedgerFault;
@@ -13,51 +12,32 @@ use crate::job::{Row, Write};
 use crate::ledger::Ledger;
 use crate::limits::{LAST_JOB, LAST_RECORD, MOST_LISTED};
 use crate::lookups::{is_written, write_index};
-use crate::opening::check_open_amendment;
-use bounded::list::Bounded;
 
-// Refuses a ninth record; one that is listed already takes no room.
-fn check_room(row: &Row, record: u8) -> Result<(), LedgerFault>
-    ensures { result ≡ told (refuse_if (not (has_written (row_view row.now).writes «record») && nat_le most_listed (length (row_view row.now).writes)) fault.TooManyWrites None) tt }
-{
-    if !is_written(row.writes.as_slice(), record) && row.writes.len() >= MOST_LISTED {
-        return Err(LedgerFault::TooManyWrites);
+impl Row {
+    // Refuses a ninth record; one that is listed already takes no room.
+    fn check_room(&self, record: u8) -> Result<(), LedgerFault>
+        ensures { result ≡ told (refuse_if (not (has_written (row_view self.now).writes «record») && nat_le most_listed (length (row_view self.now).writes)) fault.TooManyWrites None) tt }
+    {
+        if !is_written(self.writes.as_slice(), record) && self.writes.len() >= MOST_LISTED {
+            return Err(LedgerFault::TooManyWrites);
+        }
+        Ok(())
     }
-    Ok(())
-}
 
-// Lists a place: in the entry of the record if there is one, else in a new entry at the end.
-fn list_place(writes: &mut Bounded<Write, MOST_LISTED>, record: u8, place: u64)
-    requires { not (has_written (elements writes.old) «record») && nat_le most_listed (length (elements writes.old)) ≡ false }
-    ensures { elements writes.new ≡ with_place (elements writes.old) «record» place }
-{
-    let listed = writes.as_slice();
-    let index = write_index(listed, record);
-    if index < listed.len() {
-        let version = listed[index].version;
-        writes.replace(
-            index,
-            Write {
+    // The row's step at write: the place goes into the entry of the record if there is one, else into a new entry at the end.
+    fn list_place(&mut self, record: u8, place: u64)
+        requires { not (has_written (row_view self.old).writes «record») && nat_le most_listed (length (row_view self.old).writes) ≡ false }
+        ensures { row_view self.new ≡ with_write (row_view self.old) «record» place }
+    {
+        match write_index(self.writes.as_slice(), record) {
+            Some(index) => self.writes[index].place = place,
+            None => self.writes.push(Write {
                 record,
                 place,
-                version,
-            },
-        );
-    } else {
-        let _ = writes.push(Write {
-            record,
-            place,
-            version: 0,
-        });
+                version: 0,
+            }),
+        }
     }
-}
-
-// A row's step at write.
-fn write_row(row: &mut Row, record: u8, place: u64)
-    requires { not (has_written (row_view row.old).writes «record») && nat_le most_listed (length (row_view row.old).writes) ≡ false }
-    ensures { row_view row.new ≡ with_write (row_view row.old) «record» place }
-{
-    list_place(&mut row.writes, record, place);
 }
 
 impl Ledger {
@@ -72,16 +52,15 @@ impl Ledger {
             return Err(LedgerFault::RecordNumber);
         }
         let row = &self.rows[job as usize];
-        check_open_amendment(row)?;
-        check_room(row, record as u8)
+        row.check_open_amendment()?;
+        row.check_room(record as u8)
     }
 
     // Lists the place of a value that was written; the write has been checked.
     pub fn list_write(&mut self, job: u64, record: u64, place: u64)
         requires { write_fault (view self.old) job «record» ≡ None }
-        ensures after { view self.new ≡ write_done (view self.old) job «record» place }
-        ensures offices { office_count self.new ≡ office_count self.old }
+        ensures { view self.new ≡ write_done (view self.old) job «record» place }
     {
-        write_row(&mut self.rows[job as usize], record as u8, place);
+        self.rows[job as usize].list_place(record as u8, place);
     }
 }

@@ -4,7 +4,7 @@ use native.Mathlib.Decide.{dec_le}
 use Rattle.std.specs.List.{AllByRecursion}
 use Rattle.std.proofs.ByRecursion.{All-weaker}
 use Rattle.std.proofs.lemmas.Bool.{cases_lt, eqb-false, ne_eqb, or_parts, or_cases, lt-ltb, cond-true}
-use Rattle.bounded.specs.Searching.{any}
+use Rattle.std.specs.List.{list_any}
 use Rattle.ledger.specs.Limits.{last_job}
 use Rattle.ledger.specs.Model.{RowModel, LedgerModel, idle, no_row, row, exchange, put_row, with_state, is_never_opened, is_accepted, is_answered, first_unseen, has_written}
 use Rattle.ledger.specs.Delivering.{waits}
@@ -55,10 +55,10 @@ module _ {office : ℕ → ℕ} {ledger : LedgerModel} {q : List ℕ} (M : Match
       is = precedes_bool _ _ _ _ (rw ((M.rows.each U).version_is r, (M.rows.each j).version_is r, (M.rows.each U).unseen_is r, (M.rows.each j).unseen_is r) at p)
 
       in_writes : Bool
-      in_writes = any (λ z. precedes_in y x z.«record») y.writes
+      in_writes = list_any (λ z. precedes_in y x z.«record») y.writes
 
       in_reads : Bool
-      in_reads = any (λ z. precedes_in y x z.«record») y.reads
+      in_reads = list_any (λ z. precedes_in y x z.«record») y.reads
 
       not_wrote : precedes y x ≡ false → has_written y.writes r ≡ true → ⊥
       not_wrote b i = let z = no_write_passes (λ z. precedes_in y x z.«record») y.writes r (or_parts in_writes in_reads b).0 i in true≢false (sym is ∙ rw z.1 at z.2)
@@ -85,7 +85,7 @@ module _ {office : ℕ → ℕ} {ledger : LedgerModel} {q : List ℕ} (M : Match
       x = row ledger t
 
       in_some : (U : ℕ) → precedes (row ledger U) x ≡ true → (r : ℕ) × (precedes_in (row ledger U) x r ≡ true)
-      in_some U b = elim (or_cases (any (λ z. precedes_in (row ledger U) x z.«record») (row ledger U).writes) (any (λ z. precedes_in (row ledger U) x z.«record») (row ledger U).reads) b) [
+      in_some U b = elim (or_cases (list_any (λ z. precedes_in (row ledger U) x z.«record») (row ledger U).writes) (list_any (λ z. precedes_in (row ledger U) x z.«record») (row ledger U).reads) b) [
         | inl p ↦ (let z = any_some (λ z. precedes_in (row ledger U) x z.«record») (row ledger U).writes p in (z.0.«record», z.1))
         | inr p ↦ (let z = any_some (λ z. precedes_in (row ledger U) x z.«record») (row ledger U).reads p in (z.0.«record», z.1))
       ]
@@ -185,7 +185,7 @@ module _ {office : ℕ → ℕ} {ledger : LedgerModel} {q : List ℕ} (M : Match
       t : Orderly office x
       t = M.rows.orderly j
 
-      none_waits : any waits x.exchanges ≡ false
+      none_waits : list_any waits x.exchanges ≡ false
       none_waits = grind arith
 
       silent : (o : ℕ) → waits (exchange x o) ≡ false

@@ -4,7 +4,7 @@ use native.Mathlib.Decide.{dec_le}
 use lib.ListN.{get_or-eq_default}
 use Rattle.std.proofs.lemmas.Bool.{lt-ltb, cond-true}
 use Rattle.std.proofs.lemmas.List.{length_push}
-use Rattle.bounded.specs.Searching.{map_indexed}
+use Rattle.ledger.specs.Searching.{map_indexed}
 use Rattle.ledger.specs.Limits.{last_job, last_record, most_versions, most_offices}
 use Rattle.ledger.specs.Model.{RowModel, LedgerModel, idle, row, versions, exchange, is_never_opened, has_written, written_place}
 use Rattle.ledger.specs.Reading.{no_version}

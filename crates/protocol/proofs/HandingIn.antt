@@ -2,7 +2,7 @@
 use Rattle.std.proofs.Common.{◌≡◌, ℕ, ◌<◌, ◌≤◌, Bool, true, false, cond, ◌&&◌, ◌||◌, eqb, ◌⊎◌, List, [], ◌∷◌, None, refl, ap, ◌∙◌, inl, inr, zero-add, arith}
 use native.Mathlib.Decide.{dec_le}
 use lib.ListN.{get_or-eq_default}
-use Rattle.bounded.specs.Searching.{any}
+use Rattle.std.specs.List.{list_any}
 use Rattle.ledger.specs.Limits.{most_offices}
 use Rattle.ledger.specs.Model.{RowModel, LedgerModel, idle, all_idle, row, exchange, first_unseen, has_written, is_listed}
 use Rattle.ledger.specs.Delivering.{prepare_waits, holds, is_empty, is_concerned, prepares, handed_in, hand_in_done, hand_in_fault}
@@ -28,13 +28,13 @@ module _ (office : ℕ → ℕ) (x : RowModel) where
   not_concerned : (o : ℕ) → is_empty x.reads ≡ true → is_empty x.writes ≡ true → is_concerned office x o ≡ false
   not_concerned o = go x.reads x.writes
     where
-      go : (xs : List Read) (ys : List Write) → is_empty xs ≡ true → is_empty ys ≡ true → any (λ y. eqb (office y.«record») o) xs || any (λ y. eqb (office y.«record») o) ys ≡ false
+      go : (xs : List Read) (ys : List Write) → is_empty xs ≡ true → is_empty ys ≡ true → list_any (λ y. eqb (office y.«record») o) xs || list_any (λ y. eqb (office y.«record») o) ys ≡ false
       go [] [] p q = refl
       go (x ∷ xs) ys p q = absurd (grind arith)
       go [] (y ∷ ys) p q = absurd (grind arith)
 
   concerned : (r : ℕ) → is_listed x r ≡ true → is_concerned office x (office r) ≡ true
-  concerned r h = go (any f x.reads) refl (any g x.writes) refl
+  concerned r h = go (list_any f x.reads) refl (list_any g x.writes) refl
     where
       f : Read → Bool
       f y = eqb (office y.«record») (office r)
@@ -42,13 +42,13 @@ module _ (office : ℕ → ℕ) (x : RowModel) where
       g : Write → Bool
       g y = eqb (office y.«record») (office r)
 
-      not_read : any f x.reads ≡ false → 0 < first_unseen x.reads r → ⊥
+      not_read : list_any f x.reads ≡ false → 0 < first_unseen x.reads r → ⊥
       not_read p l = let z = no_read_passes f x.reads r p l in let e : office z.0.«record» ≡ office r = ap office z.1 in grind (arith, z.3)
 
-      not_written : any g x.writes ≡ false → has_written x.writes r ≡ true → ⊥
+      not_written : list_any g x.writes ≡ false → has_written x.writes r ≡ true → ⊥
       not_written p l = let z = no_write_passes g x.writes r p l in let e : office z.0.«record» ≡ office r = ap office z.1 in grind (arith, z.2)
 
-      go : (a : Bool) → any f x.reads ≡ a → (b : Bool) → any g x.writes ≡ b → a || b ≡ true
+      go : (a : Bool) → list_any f x.reads ≡ a → (b : Bool) → list_any g x.writes ≡ b → a || b ≡ true
       go true p b q = refl
       go false p true q = refl
       go false p false q = absurd (grind (arith, not_read p, not_written q))

@@ -1,6 +1,7 @@
 -- What is found in the lists of a row and of the ledger, before and after a step.
 use Rattle.std.proofs.Common.{◌≡◌, ℕ, zero, suc, ◌+◌, ◌<◌, ◌≤◌, Bool, true, false, cond, ◌&&◌, eqb, ◌≢◌, List, [], ◌∷◌, ◌++◌, map, length, get_or, set, replicate, refl, ap, add-zero, add-suc, suc-add, arith, get_or-set_other, get_or-set_same}
-use Rattle.bounded.specs.Searching.{any, highest, any_indexed, map_indexed}
+use Rattle.std.specs.List.{list_any}
+use Rattle.ledger.specs.Searching.{highest, any_indexed, map_indexed}
 use Rattle.ledger.specs.Model.{LedgerModel, versions, first_unseen, has_written, installed_version}
 use Rattle.ledger.specs.Writing.{with_place}
 use Rattle.ledger.specs.Delivering.{installed}
@@ -29,20 +30,20 @@ module _ (office : ℕ → ℕ) (ledger : LedgerModel) (o : ℕ) where
   version_installed (x ∷ xs) s = let ih = version_installed xs s in grind arith
 
 -- a test that no listed record passes fails at each
-pub no_read_passes : (f : Read → Bool) (xs : List Read) (r : ℕ) → any f xs ≡ false → 0 < first_unseen xs r → (z : Read) × (z.«record» ≡ r) × (first_unseen xs r ≡ suc z.version) × (f z ≡ false)
+pub no_read_passes : (f : Read → Bool) (xs : List Read) (r : ℕ) → list_any f xs ≡ false → 0 < first_unseen xs r → (z : Read) × (z.«record» ≡ r) × (first_unseen xs r ≡ suc z.version) × (f z ≡ false)
 no_read_passes f [] r e l = absurd (grind arith)
 no_read_passes f (x ∷ xs) r e l = go (eqb x.«record» r) refl (no_read_passes f xs r)
   where
-    go : (b : Bool) → eqb x.«record» r ≡ b → (any f xs ≡ false → 0 < first_unseen xs r → (z : Read) × (z.«record» ≡ r) × (first_unseen xs r ≡ suc z.version) × (f z ≡ false)) →
+    go : (b : Bool) → eqb x.«record» r ≡ b → (list_any f xs ≡ false → 0 < first_unseen xs r → (z : Read) × (z.«record» ≡ r) × (first_unseen xs r ≡ suc z.version) × (f z ≡ false)) →
         (z : Read) × (z.«record» ≡ r) × (first_unseen (x ∷ xs) r ≡ suc z.version) × (f z ≡ false)
     go true q ih = (x, grind arith, grind arith, grind arith)
     go false q ih = let y = ih (grind arith) (grind arith) in (y.0, y.1, grind arith, y.3)
 
-pub no_write_passes : (f : Write → Bool) (xs : List Write) (r : ℕ) → any f xs ≡ false → has_written xs r ≡ true → (z : Write) × (z.«record» ≡ r) × (f z ≡ false)
+pub no_write_passes : (f : Write → Bool) (xs : List Write) (r : ℕ) → list_any f xs ≡ false → has_written xs r ≡ true → (z : Write) × (z.«record» ≡ r) × (f z ≡ false)
 no_write_passes f [] r e l = absurd (grind arith)
 no_write_passes f (x ∷ xs) r e l = go (eqb x.«record» r) refl (no_write_passes f xs r)
   where
-    go : (b : Bool) → eqb x.«record» r ≡ b → (any f xs ≡ false → has_written xs r ≡ true → (z : Write) × (z.«record» ≡ r) × (f z ≡ false)) → (z : Write) × (z.«record» ≡ r) × (f z ≡ false)
+    go : (b : Bool) → eqb x.«record» r ≡ b → (list_any f xs ≡ false → has_written xs r ≡ true → (z : Write) × (z.«record» ≡ r) × (f z ≡ false)) → (z : Write) × (z.«record» ≡ r) × (f z ≡ false)
     go true q ih = (x, grind arith, grind arith)
     go false q ih = ih (grind arith) (grind arith)
 
@@ -69,20 +70,20 @@ module _ {A : Type 0} where
   length_indexed f [] i = refl
   length_indexed f (x ∷ xs) i = ap suc (length_indexed f xs (suc i))
 
-  pub any_none_at : (f : A → Bool) (xs : List A) (k : ℕ) (d : A) → any f xs ≡ false → f d ≡ false → f (get_or xs k d) ≡ false
+  pub any_none_at : (f : A → Bool) (xs : List A) (k : ℕ) (d : A) → list_any f xs ≡ false → f d ≡ false → f (get_or xs k d) ≡ false
   any_none_at f [] k d e q = q
   any_none_at f (x ∷ xs) zero d e q = grind arith
   any_none_at f (x ∷ xs) (suc k) d e q = any_none_at f xs k d (grind arith) q
 
-  pub any_none_from : (f : A → Bool) (xs : List A) (d : A) → ((k : ℕ) → f (get_or xs k d) ≡ false) → any f xs ≡ false
+  pub any_none_from : (f : A → Bool) (xs : List A) (d : A) → ((k : ℕ) → f (get_or xs k d) ≡ false) → list_any f xs ≡ false
   any_none_from f [] d h = refl
   any_none_from f (x ∷ xs) d h = let a = h 0 in let b = any_none_from f xs d (λ k. h (suc k)) in grind arith
 
-  pub any_some : (f : A → Bool) (xs : List A) → any f xs ≡ true → (z : A) × (f z ≡ true)
+  pub any_some : (f : A → Bool) (xs : List A) → list_any f xs ≡ true → (z : A) × (f z ≡ true)
   any_some f [] e = absurd (grind arith)
   any_some f (x ∷ xs) e = go (f x) refl (any_some f xs)
     where
-      go : (b : Bool) → f x ≡ b → (any f xs ≡ true → (z : A) × (f z ≡ true)) → (z : A) × (f z ≡ true)
+      go : (b : Bool) → f x ≡ b → (list_any f xs ≡ true → (z : A) × (f z ≡ true)) → (z : A) × (f z ≡ true)
       go true q ih = (x, q)
       go false q ih = ih (grind arith)
 

@@ -1,6 +1,6 @@
 -- A first reading is one move; a later one is none.
 use Rattle.std.proofs.Common.{◌≡◌, ℕ, zero, suc, ◌<◌, ◌≤◌, Bool, true, false, cond, List, length, get_or, None, refl, arith}
-use Rattle.bounded.specs.Searching.{highest}
+use Rattle.ledger.specs.Searching.{highest}
 use Rattle.ledger.specs.Model.{RowModel, LedgerModel, row, versions, put_row, is_answered, first_unseen}
 use Rattle.ledger.specs.Reading.{newest_answered, newest, is_new_read, read_fault, no_version, with_read, read_done}
 use Rattle.ledger.specs.declared.job.JobKind.{JobKind}

@@ -1,7 +1,7 @@
 -- What an accepted call makes of the kind and the lists of each row, and of the answers.
 use Rattle.std.proofs.Common.{◌≡◌, ℕ, suc, ◌+◌, ◌≤◌, Bool, true, false, cond, ◌&&◌, eqb, ltb, List, [], ◌∷◌, ◌++◌, map, length, None, sym, refl, ap, ◌∙◌, arith}
 use Rattle.std.proofs.lemmas.Bool.{lt-ltb, cond-true}
-use Rattle.bounded.specs.Searching.{any}
+use Rattle.std.specs.List.{list_any}
 use Rattle.ledger.specs.Limits.{last_job}
 use Rattle.ledger.specs.Model.{RowModel, LedgerModel, idle, no_row, row, versions, exchange, put_row, with_state, is_never_opened, is_accepted, is_answered, first_unseen, has_written}
 use Rattle.ledger.specs.Opening.{newly_opened}
@@ -82,7 +82,7 @@ entries_with_place (x ∷ xs) r p = go (eqb x.«record» r) (entries_with_place 
     go false i = cc
 
 counted_core : (x : RowModel) → core (counted x) ≡ core x
-counted_core x = go (any waits x.exchanges)
+counted_core x = go (list_any waits x.exchanges)
   where
     go : (b : Bool) → core (cond b x (decided (first_refusal x.exchanges) x)) ≡ core x
     go true = refl

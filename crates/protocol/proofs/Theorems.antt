@@ -3,7 +3,7 @@ use Rattle.std.proofs.Common.{◌≡◌, ℕ, suc, ◌<◌, ◌≤◌, true, fal
 use Rattle.std.specs.List.{AllByRecursion}
 use Rattle.std.proofs.ByRecursion.{All-weaker}
 use Rattle.std.proofs.lemmas.Bool.{cases_lt}
-use Rattle.bounded.specs.Searching.{any}
+use Rattle.std.specs.List.{list_any}
 use Rattle.ledger.specs.Limits.{last_job}
 use Rattle.ledger.specs.Model.{LedgerModel, idle, row, exchange, is_amendment, first_unseen, has_written, installed_version}
 use Rattle.ledger.specs.Delivering.{waits}
@@ -97,7 +97,7 @@ module _ {office : ℕ → ℕ} {l : LedgerModel} {q : List ℕ} (M : Matched of
       amendment : is_amendment (row l t).kind ≡ true
       amendment = grind (arith, (M.rows.orderly t).kind_fits)
 
-      silent : any waits (row l t).exchanges ≡ false
+      silent : list_any waits (row l t).exchanges ≡ false
       silent = any_none_from waits (row l t).exchanges idle (calm.silent t)
 
   pub first_of_line : Calm l → (t : ℕ) (ts : List ℕ) → q ≡ t ∷ ts → ((row l t).state ≡ Accepted) × (is_held l t ≡ false) × (collect_fault l t ≡ None)

@@ -1,7 +1,7 @@
 -- A vote that arrives is no move; with the last one the job is accepted or dropped, which is one.
 use Rattle.std.proofs.Common.{◌≡◌, ℕ, zero, suc, ◌<◌, ◌≤◌, Bool, true, false, cond, ◌||◌, List, [], ◌∷◌, get_or, is_some, Some, None, Option, sym, refl, ap, ◌∙◌, arith}
 use lib.ListN.{length-map, get_or-map}
-use Rattle.bounded.specs.Searching.{any}
+use Rattle.std.specs.List.{list_any}
 use Rattle.ledger.specs.Limits.{last_job, most_offices}
 use Rattle.ledger.specs.Model.{RowModel, LedgerModel, idle, row, exchange, put_row, is_never_opened}
 use Rattle.ledger.specs.Delivering.{vote_noted, waits, is_yes, holds, with_exchange, refusal, first_of, first_refusal, outcome, decision_for, decision_waits, decided, delivered_voting}
@@ -67,7 +67,7 @@ none_refused (y ∷ es) i e = go (refusal y.vote) refl i e (none_refused es)
 pub vote_matched : {office : ℕ → ℕ} {ledger : LedgerModel} {q : List ℕ} (M : Matched office ledger q) (j o : ℕ) → j ≤ last_job → o < most_offices → (v : Vote) →
     (row ledger j).state ≡ Voting → (exchange (row ledger j) o).waiting ≡ Some (VoteCast v) →
     Matched office (delivered_voting office (VoteCast v) ledger j o) (line_after ledger (delivered_voting office (VoteCast v) ledger j o) j q)
-vote_matched {office} {ledger} {q} M j o jb ob v s e = go (any waits y.exchanges) refl (first_refusal y.exchanges) refl
+vote_matched {office} {ledger} {q} M j o jb ob v s e = go (list_any waits y.exchanges) refl (first_refusal y.exchanges) refl
   where
     x : RowModel
     x = row ledger j
@@ -102,7 +102,7 @@ vote_matched {office} {ledger} {q} M j o jb ob v s e = go (any waits y.exchanges
     voting : M.machine.phase j ≡ machine.voting
     voting = grind (arith, now.phase_is)
 
-    go : (a : Bool) → any waits y.exchanges ≡ a → (b : Option Mark) → first_refusal y.exchanges ≡ b →
+    go : (a : Bool) → list_any waits y.exchanges ≡ a → (b : Option Mark) → first_refusal y.exchanges ≡ b →
         Matched office (put_row ledger j (cond a y (decided b y))) (line_after ledger (put_row ledger j (cond a y (decided b y))) j q)
     go true p b r = message_moved M j o jb ob taken (vote_noted v) same_hold (rw s refl) (λ _. refl)
     go false p (Some m) r =

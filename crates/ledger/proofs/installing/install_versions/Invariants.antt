@@ -1,6 +1,7 @@
-use Rattle.std.proofs.Common.{◌≡◌, ◌%◌, map, length}
-use Rattle.bounded.specs.Elements.{elements}
+use Rattle.std.proofs.Common.{◌≡◌, map, length}
 use Rattle.ledger.specs.Delivering.{record_installed}
+use Rattle.ledger.specs.Offices.{office_of}
+use Rattle.ledger.proofs.Installations.{lists}
 use Rattle.ledger.proofs.MapsInPlace.{changed_front}
 use Rattle.ledger.proofs.installing.install_versions.Given as goal
 
@@ -8,4 +9,4 @@ use Rattle.ledger.proofs.installing.install_versions.Given as goal
 abbrev pub invariant-loop-record : goal.invariant-loop-record
 invariant-loop-record l =
     (length l.records ≡ 64) ×
-    (map elements l.records ≡ changed_front (record_installed (λ n. n % l.offices.count) l.writes l.job l.office) 0 l.«record» (map elements l.initial.records))
+    (lists l.records ≡ changed_front (record_installed (office_of l.office.offices) l.writes l.job l.office.number) 0 l.«record» (lists l.initial.records))

@@ -1,8 +1,8 @@
-use Rattle.ledger.proofs.Positions.{installed_listed, installed_unlisted}
+use Rattle.std.proofs.Common.{◌≡◌, ap, ◌∙◌, rules}
+use Rattle.ledger.proofs.Positions.{version_or_none, installed_found}
 use Rattle.ledger.proofs.lookups.installed_version.Goals as goal
 
-pub returns-then-index-writes : goal.returns-then-index-writes
-returns-then-index-writes c = installed_listed c.args.writes.now c.args.«record» c.write_index-index.result _ c.write_index-index.ensures.value c.if-index-writes.true
-
-pub returns-else-index-writes : goal.returns-else-index-writes
-returns-else-index-writes c = installed_unlisted c.args.writes.now c.args.«record» c.write_index-index.result c.write_index-index.ensures.value c.if-index-writes.false
+pub returns : goal.returns
+returns c =
+    let e : c.map_or.result ≡ version_or_none c.entry_of.result = search rules in
+    e ∙ ap version_or_none c.entry_of.ensures ∙ installed_found c.args.writes.now c.args.«record»

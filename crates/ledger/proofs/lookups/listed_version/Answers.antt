@@ -1,8 +1,11 @@
-use Rattle.ledger.proofs.Positions.{unseen_listed, unseen_unlisted}
+use Rattle.std.proofs.Common.{◌≡◌, ap, ◌∙◌, rules}
+use Rattle.std.specs.Option.{option_map}
+use Rattle.ledger.specs.Lookups.{unseen_after}
+use Rattle.ledger.specs.declared.job.Read.{Read}
+use Rattle.ledger.proofs.Positions.{unseen_found}
 use Rattle.ledger.proofs.lookups.listed_version.Goals as goal
 
-pub returns-then-index-reads : goal.returns-then-index-reads
-returns-then-index-reads c = unseen_listed c.args.reads.now c.args.«record» c.position-index.result _ c.position-index.ensures.value c.if-index-reads.true
-
-pub returns-else-index-reads : goal.returns-else-index-reads
-returns-else-index-reads c = unseen_unlisted c.args.reads.now c.args.«record» c.position-index.result c.position-index.ensures.value c.if-index-reads.false
+pub returns : goal.returns
+returns c =
+    let e : c.map.result ≡ option_map (λ (x : Read). x.version) c.entry_of.result = search rules in
+    ap unseen_after (e ∙ ap (option_map (λ (x : Read). x.version)) c.entry_of.ensures) ∙ unseen_found c.args.reads.now c.args.«record»

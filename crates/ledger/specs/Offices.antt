@@ -1,0 +1,7 @@
+-- Which office owns a record; src/offices.rt cites it. Assumes nothing.
+use Rattle.std.specs.Prelude.{ℕ, ◌%◌}
+use Rattle.ledger.specs.declared.offices.Offices.{Offices}
+
+-- record r belongs to the office whose number is the remainder of r by the number of offices
+abbrev pub office_of : Offices → ℕ → ℕ
+office_of offices r = r % offices.count
