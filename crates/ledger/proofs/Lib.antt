@@ -1,4 +1,5 @@
 pub mod Tables
+pub mod Prepared
 pub mod Views
 pub mod Positions
 pub mod Refusals

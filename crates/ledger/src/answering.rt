@@ -11,7 +11,7 @@ ghost use Rattle.ledger.specs.declared.job.State.TheVariants.{Answered, Ended};
 use crate::fault::LedgerFault;
 use crate::job::{Collected, JobKind, Row, State};
 use crate::ledger::Ledger;
-use crate::limits::LAST_JOB;
+use crate::numbers::job_number;
 
 impl Row {
     // The row's step at its answer.
@@ -49,10 +49,7 @@ impl Ledger {
         ensures told { result ≡ told (collect_fault (view self.old) job) (collected (row_of (view self.old) job).state) }
         ensures after { view self.new ≡ guarded (collect_fault (view self.old) job) (view self.old) (collect_done (view self.old) job) }
     {
-        if job > LAST_JOB {
-            return Err(LedgerFault::JobNumber);
-        }
-        let job = job as u8;
+        let job = job_number(job)?;
         match (self.state(job), self.kind(job)) {
             (State::NeverOpened, _) => Err(LedgerFault::NeverOpened),
             (_, JobKind::Inspection) => Err(LedgerFault::WrongKind),
@@ -83,10 +80,7 @@ impl Ledger {
         ensures told { result ≡ told (close_fault (view self.old) job) tt }
         ensures after { view self.new ≡ guarded (close_fault (view self.old) job) (view self.old) (close_done (view self.old) job) }
     {
-        if job > LAST_JOB {
-            return Err(LedgerFault::JobNumber);
-        }
-        let job = job as u8;
+        let job = job_number(job)?;
         match (self.state(job), self.kind(job)) {
             (State::NeverOpened, _) => Err(LedgerFault::NeverOpened),
             (_, JobKind::Amendment) => Err(LedgerFault::WrongKind),

@@ -10,8 +10,8 @@ ghost use Rattle.ledger.specs.declared.fault.LedgerFault.TheVariants as fault;
 use crate::fault::LedgerFault;
 use crate::job::{JobKind, Row, State};
 use crate::ledger::Ledger;
-use crate::limits::LAST_JOB;
 use crate::message::{Message, Outcome};
+use crate::numbers::job_number;
 use crate::office::Office;
 use crate::offices::Offices;
 
@@ -35,13 +35,10 @@ impl Ledger {
         ensures told { result ≡ told (deliver_fault offices.count (view self.old) job office) tt }
         ensures after { view self.new ≡ guarded (deliver_fault offices.count (view self.old) job office) (view self.old) (deliver_done (office_of offices) (view self.old) job office) }
     {
-        if job > LAST_JOB {
-            return Err(LedgerFault::JobNumber);
-        }
+        let job = job_number(job)?;
         if office >= offices.count() as u64 {
             return Err(LedgerFault::OfficeNumber);
         }
-        let job = job as u8;
         let office = Office {
             offices,
             number: office as u8,

@@ -11,9 +11,10 @@ ghost use Rattle.ledger.specs.declared.job.State.TheVariants.{Accepted, Voting};
 use crate::fault::LedgerFault;
 use crate::job::{Row, State};
 use crate::ledger::Ledger;
-use crate::limits::{LAST_JOB, MOST_OFFICES};
+use crate::limits::MOST_OFFICES;
 use crate::lookups::Entry;
 use crate::message::{Exchange, Message};
+use crate::numbers::job_number;
 use crate::office::Office;
 use crate::offices::Offices;
 use std::array;
@@ -80,9 +81,7 @@ impl Ledger {
         ensures told { result ≡ told (hand_in_fault (view self.old) job) tt }
         ensures after { view self.new ≡ guarded (hand_in_fault (view self.old) job) (view self.old) (hand_in_done (office_of offices) (view self.old) job) }
     {
-        if job > LAST_JOB {
-            return Err(LedgerFault::JobNumber);
-        }
+        let job = job_number(job)?;
         let row = &mut self.rows[job as usize];
         row.check_open_amendment()?;
         row.submit(offices);

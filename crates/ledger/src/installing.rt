@@ -57,14 +57,23 @@ impl Row {
 }
 
 impl Ledger {
+    // The installed versions of a record, version 1 first.
+    pub(crate) fn versions(&self, record: u8) -> &[Version]
+        ensures value { result.now ≡ versions (view self.now) «record» }
+        ensures bound { length result.now ≤ 32 }
+    {
+        match self.records.get(record as usize) {
+            Some(versions) => versions.as_slice(),
+            None => &[],
+        }
+    }
+
     // How many versions a record has.
     pub(crate) fn version_count(&self, record: u8) -> u8
         ensures value { result ≡ length (versions (view self.now) «record») }
         ensures bound { result ≤ 32 }
     {
-        self.records
-            .get(record as usize)
-            .map_or(0, |versions| versions.len() as u8)
+        self.versions(record).len() as u8
     }
 
     // A write with the version that it becomes, if the office owns its record.

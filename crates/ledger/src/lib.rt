@@ -12,6 +12,7 @@ pub mod ledger;
 pub mod limits;
 pub mod lookups;
 pub mod message;
+mod numbers;
 pub mod office;
 pub mod offices;
 pub mod opening;

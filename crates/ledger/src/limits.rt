@@ -2,11 +2,8 @@
 
 pub const JOBS: usize = 256;
 
-pub const LAST_JOB: u64 = 255;
-
 pub const RECORDS: usize = 64;
 
-pub const LAST_RECORD: u64 = 63;
 // how many records a job may list as read, and how many as written
 pub const MOST_LISTED: usize = 8;
 

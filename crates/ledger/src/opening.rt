@@ -10,7 +10,7 @@ ghost use Rattle.ledger.specs.declared.job.State.TheVariants.{Ended};
 use crate::fault::LedgerFault;
 use crate::job::{JobKind, Row, State};
 use crate::ledger::Ledger;
-use crate::limits::LAST_JOB;
+use crate::numbers::job_number;
 
 impl Row {
     // Whether the job's commit is known to its client.
@@ -57,10 +57,8 @@ impl Ledger {
         ensures told { result ≡ told (open_fault (view self.old) job) tt }
         ensures after { view self.new ≡ guarded (open_fault (view self.old) job) (view self.old) (open_done (view self.old) kind job) }
     {
-        if job > LAST_JOB {
-            return Err(LedgerFault::JobNumber);
-        }
-        match self.state(job as u8) {
+        let job = job_number(job)?;
+        match self.state(job) {
             State::NeverOpened => self.rows[job as usize].start(kind),
             _ => return Err(LedgerFault::JobTaken),
         }
@@ -72,9 +70,7 @@ impl Ledger {
         ensures told { result ≡ told (withdraw_fault (view self.old) job) tt }
         ensures after { view self.new ≡ guarded (withdraw_fault (view self.old) job) (view self.old) (withdraw_done (view self.old) job) }
     {
-        if job > LAST_JOB {
-            return Err(LedgerFault::JobNumber);
-        }
+        let job = job_number(job)?;
         let row = &mut self.rows[job as usize];
         row.check_open_amendment()?;
         row.end();

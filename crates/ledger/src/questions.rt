@@ -7,7 +7,7 @@ ghost use Rattle.ledger.specs.View.{view};
 use crate::fault::LedgerFault;
 use crate::job::{JobKind, State};
 use crate::ledger::Ledger;
-use crate::limits::{LAST_JOB, LAST_RECORD};
+use crate::numbers::{job_number, record_number};
 
 impl Ledger {
     pub(crate) fn state(&self, job: u8) -> State
@@ -26,10 +26,8 @@ impl Ledger {
     pub fn job_state(&self, job: u64) -> Result<State, LedgerFault>
         ensures { result ≡ state_told (view self.now) job }
     {
-        if job > LAST_JOB {
-            return Err(LedgerFault::JobNumber);
-        }
-        match self.state(job as u8) {
+        let job = job_number(job)?;
+        match self.state(job) {
             State::NeverOpened => Err(LedgerFault::NeverOpened),
             state => Ok(state),
         }
@@ -39,10 +37,7 @@ impl Ledger {
     pub fn newest_version(&self, record: u64) -> Result<u8, LedgerFault>
         ensures { result ≡ newest_told (view self.now) «record» }
     {
-        if record > LAST_RECORD {
-            return Err(LedgerFault::RecordNumber);
-        }
-        Ok(self.records[record as usize].len() as u8)
+        Ok(self.version_count(record_number(record)?))
     }
 
     // The answered jobs in the order of their answers.
@@ -63,10 +58,9 @@ impl Ledger {
     pub fn answered_at(&self, n: u64) -> Result<u8, LedgerFault>
         ensures { result ≡ answer_told (view self.now) n }
     {
-        let answered = self.answered();
-        if n >= answered.len() as u64 {
-            return Err(LedgerFault::NoSuchAnswer);
-        }
-        Ok(answered[n as usize])
+        self.answered()
+            .get(n as usize)
+            .copied()
+            .ok_or(LedgerFault::NoSuchAnswer)
     }
 }

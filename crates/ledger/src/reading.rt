@@ -9,8 +9,9 @@ ghost use Rattle.ledger.specs.View.{view, row_view};
 use crate::fault::LedgerFault;
 use crate::job::{JobKind, Read, Row, State};
 use crate::ledger::Ledger;
-use crate::limits::{LAST_JOB, LAST_RECORD, MOST_LISTED};
+use crate::limits::MOST_LISTED;
 use crate::lookups::{listed_version, own_place};
+use crate::numbers::{job_number, record_number};
 
 // Where a read finds its value.
 #[derive(Clone, Copy, PartialEq, Eq, Debug)]
@@ -57,11 +58,10 @@ impl Row {
 impl Ledger {
     // The highest version of a record whose job is answered, or 0.
     fn newest_answered(&self, record: u8) -> u8
-        requires { «record» < 64 }
         ensures { result ≡ newest_answered (view self.now) «record» }
     {
         let mut newest = 0;
-        for (index, version) in self.records[record as usize].iter().enumerate() {
+        for (index, version) in self.versions(record).iter().enumerate() {
             if self.rows[version.job as usize].is_answered() {
                 newest = index as u8 + 1;
             }
@@ -71,7 +71,6 @@ impl Ledger {
 
     // The version that a first reading is told: an inspection sees answered jobs only.
     fn newest(&self, row: &Row, record: u8) -> u8
-        requires { «record» < 64 }
         ensures { result ≡ newest_of (view self.now) (row_view row.now) «record» }
     {
         match row.kind {
@@ -81,21 +80,19 @@ impl Ledger {
     }
 
     fn version_source(&self, record: u8, version: u8) -> Source
-        requires { «record» < 64 }
         ensures { result ≡ version_source (view self.now) «record» version }
     {
         if version == 0 {
             return Source::Blank;
         }
-        let place = self.records[record as usize]
-            .as_slice()
+        let place = self
+            .versions(record)
             .get(version as usize - 1)
             .map_or(0, |installed| installed.place);
         Source::Installed { version, place }
     }
 
     fn source(&self, row: &Row, record: u8) -> Source
-        requires { «record» < 64 }
         ensures { result ≡ read_source (view self.now) (row_view row.now) «record» }
     {
         if let Some(place) = own_place(row.writes.as_slice(), record) {
@@ -111,20 +108,15 @@ impl Ledger {
     pub fn find(&self, job: u64, record: u64) -> Result<Source, LedgerFault>
         ensures { result ≡ told (read_fault (view self.now) job «record») (read_source (view self.now) (row_of (view self.now) job) «record») }
     {
-        if job > LAST_JOB {
-            return Err(LedgerFault::JobNumber);
-        }
-        if record > LAST_RECORD {
-            return Err(LedgerFault::RecordNumber);
-        }
+        let job = job_number(job)?;
+        let record = record_number(record)?;
         let row = &self.rows[job as usize];
-        row.check_read(record as u8)?;
-        Ok(self.source(row, record as u8))
+        row.check_read(record)?;
+        Ok(self.source(row, record))
     }
 
     // The version that a read lists, if it is a first reading.
     fn first_reading(&self, job: u8, record: u8) -> Option<u8>
-        requires { «record» < 64 }
         ensures { result ≡ (if is_new (row_of (view self.now) job) «record» then Some (newest_of (view self.now) (row_of (view self.now) job) «record») else None) }
     {
         let row = &self.rows[job as usize];

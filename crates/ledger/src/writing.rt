@@ -10,8 +10,9 @@ ghost use Rattle.ledger.specs.declared.fault.LedgerFault.TheVariants as fault;
 use crate::fault::LedgerFault;
 use crate::job::{Row, Write};
 use crate::ledger::Ledger;
-use crate::limits::{LAST_JOB, LAST_RECORD, MOST_LISTED};
+use crate::limits::MOST_LISTED;
 use crate::lookups::{is_written, write_index};
+use crate::numbers::{job_number, record_number};
 
 impl Row {
     // Refuses a ninth record; one that is listed already takes no room.
@@ -45,15 +46,11 @@ impl Ledger {
     pub fn check_write(&self, job: u64, record: u64) -> Result<(), LedgerFault>
         ensures { result ≡ told (write_fault (view self.now) job «record») tt }
     {
-        if job > LAST_JOB {
-            return Err(LedgerFault::JobNumber);
-        }
-        if record > LAST_RECORD {
-            return Err(LedgerFault::RecordNumber);
-        }
+        let job = job_number(job)?;
+        let record = record_number(record)?;
         let row = &self.rows[job as usize];
         row.check_open_amendment()?;
-        row.check_room(record as u8)
+        row.check_room(record)
     }
 
     // Lists the place of a value that was written; the write has been checked.

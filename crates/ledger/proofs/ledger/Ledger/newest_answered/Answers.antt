@@ -11,7 +11,7 @@ use Rattle.ledger.proofs.ledger.Ledger.newest_answered.Goals.{then-is_answered, 
 
 pub loop-index-preserved : goal.loop-index-preserved
 loop-index-preserved c =
-    let more = highest_more (λ v. is_answered (row (view c.args.self.now) v.job).state) c.deref-version-items.result.now c.loop-index.index no_version (omega arith) in
+    let more = highest_more (λ v. is_answered (row (view c.args.self.now) v.job).state) c.versions-version-items.result.now c.loop-index.index no_version (omega arith) in
     elim c.if-is_answered.branch [
       | then-is_answered w ↦ grind (arith, common_steps, one_row)
       | else-is_answered w ↦ grind (arith, common_steps, one_row)
