@@ -2,7 +2,7 @@
 use Rattle.std.specs.Prelude.{ℕ, List}
 use Rattle.ledger.specs.Model.{LedgerModel, new_ledger}
 use Rattle.ledger.specs.Limits.{offices_built}
-use Rattle.ledger.specs.View.{view, office_count}
+use Rattle.ledger.specs.View.{view}
 use Rattle.house.specs.declared.house.House.{House}
 
 -- `items` and `room` are the shelf's list of values and its capacity
@@ -21,4 +21,4 @@ with_ledger m l = record { offices = m.offices; ledger = l; items = m.items; roo
 
 -- what a house means, by what its shelf means
 abbrev pub model : {S V : Type 0} → (S → List V) → (S → ℕ) → House S → HouseModel V
-model items room h = record { offices = office_count h.ledger; ledger = view h.ledger; items = items h.shelf; room = room h.shelf }
+model items room h = record { offices = h.offices.count; ledger = view h.ledger; items = items h.shelf; room = room h.shelf }

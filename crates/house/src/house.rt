@@ -9,12 +9,14 @@ use crate::fault::Fault;
 use crate::reading::Reading;
 use ledger::job::{Collected, JobKind};
 use ledger::ledger::Ledger;
+use ledger::offices::Offices;
 use ledger::reading::Source;
 use shelves::shelf::Shelf;
 
 // The jobs and records of one forwarder, over a shelf of values.
 #[derive(Drop)]
 pub struct House<S> {
+    pub(crate) offices: Offices,
     pub(crate) ledger: Ledger,
     pub(crate) shelf: S,
 }
@@ -25,7 +27,8 @@ impl<S: Shelf> House<S> {
         ensures { model S.items S.room result ≡ built offices (S.items shelf) (S.room shelf) }
     {
         House {
-            ledger: Ledger::new(offices),
+            offices: Offices::new(offices),
+            ledger: Ledger::new(),
             shelf,
         }
     }
@@ -96,7 +99,7 @@ impl<S: Shelf> House<S> {
         ensures after { model S.items S.room self.new ≡ kept result (model S.items S.room self.old) (hand_in_after (model S.items S.room self.old) job) }
         ensures shelf { self.new.shelf ≡ self.old.shelf }
     {
-        self.ledger.hand_in(job)?;
+        self.ledger.hand_in(job, self.offices)?;
         Ok(())
     }
 
@@ -106,7 +109,7 @@ impl<S: Shelf> House<S> {
         ensures after { model S.items S.room self.new ≡ kept result (model S.items S.room self.old) (deliver_after (model S.items S.room self.old) job office) }
         ensures shelf { self.new.shelf ≡ self.old.shelf }
     {
-        self.ledger.deliver(job, office)?;
+        self.ledger.deliver(job, office, self.offices)?;
         Ok(())
     }
 

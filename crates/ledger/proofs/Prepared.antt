@@ -1,5 +1,5 @@
 -- A delivery of a prepare, over plain numbers: n is the job's number as it is looked up, j as the call names it. Assumes nothing.
-use Rattle.std.proofs.Common.{◌≡◌, ℕ, ◌<◌, ◌≤◌, true, false, Some, None, Option, sym, ap, ◌∙◌, subst, arith}
+use Rattle.std.proofs.Common.{◌≡◌, ℕ, ◌<◌, ◌≤◌, true, Some, None, Option, sym, ap, ◌∙◌, arith}
 use Rattle.ledger.specs.Delivering.{with_exchange, vote_waits, vote_of, delivered_if, deliver_fault, deliver_done}
 use Rattle.ledger.specs.Faults.{guarded}
 use Rattle.ledger.specs.Limits.{last_job}

@@ -1,5 +1,4 @@
 -- The steps from the code's tables to their meaning that proofs of the ledger's functions take again and again: `#![tactic(..)]` in src/lib.rt names them. Assumes nothing.
-use Rattle.std.proofs.Common.{◌≡◌, map}
 use lib.ListN.{get_or-map, length-map}
 use Rattle.std.proofs.lemmas.List.{map-set}
 

@@ -1,5 +1,5 @@
 -- What the tables of the code mean; every contract of the ledger goes by it. Assumes nothing.
-use Rattle.std.specs.Prelude.{List, map, reverse}
+use Rattle.std.specs.Prelude.{map, reverse}
 use Rattle.ledger.specs.Model.{RowModel, LedgerModel}
 use Rattle.ledger.specs.declared.job.Row.{Row}
 use Rattle.ledger.specs.declared.ledger.Ledger.{Ledger}

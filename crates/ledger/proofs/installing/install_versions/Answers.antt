@@ -1,4 +1,4 @@
-use Rattle.std.proofs.Common.{◌≡◌, ◌<◌, List, [], map, length, get_or, sym, ap, ◌∙◌, arith, length-set}
+use Rattle.std.proofs.Common.{◌≡◌, ◌<◌, [], length, get_or, sym, ap, ◌∙◌, arith, length-set}
 use lib.ListN.{length-map, get_or-map}
 use Rattle.std.proofs.lemmas.List.{map-set, get_or_default}
 use Rattle.arrayvec.specs.ArrayVec.{ArrayVec}

@@ -1,4 +1,4 @@
-use Rattle.std.proofs.Common.{◌≡◌, map, length}
+use Rattle.std.proofs.Common.{◌≡◌, length}
 use Rattle.ledger.specs.Delivering.{record_installed}
 use Rattle.ledger.specs.Offices.{office_of}
 use Rattle.ledger.proofs.Installations.{lists}

@@ -1,8 +1,7 @@
-use Rattle.std.proofs.Common.{◌≡◌, ◌<◌, ◌≤◌, length, None, Some, sym, ap, ◌∙◌, rules, arith}
+use Rattle.std.proofs.Common.{◌≡◌, ◌<◌, length, None, Some, sym, ap, ◌∙◌, rules, arith}
 use Rattle.std.proofs.lemmas.Grind.{common_steps}
 use Rattle.arrayvec.proofs.ArrayVecLemmas.{items-with_items}
-use Rattle.std.specs.List.{position, position_or_len}
-use Rattle.ledger.specs.declared.job.Write.{Write}
+use Rattle.std.specs.List.{position}
 use Rattle.ledger.proofs.Positions.{write_of, place_replaced, place_added, room_for_write}
 use Rattle.ledger.proofs.Searches.{found_first, found_none}
 use Rattle.ledger.proofs.job.Row.list_place.Goals as goal

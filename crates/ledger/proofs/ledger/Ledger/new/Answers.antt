@@ -1,6 +1,6 @@
-use Rattle.std.proofs.Common.{◌≡◌, [], List, map, replicate, reverse, ap, rules}
+use Rattle.std.proofs.Common.{◌≡◌, [], map, replicate, reverse, ap, rules}
 use Rattle.arrayvec.specs.ArrayVec.{ArrayVec}
-use Rattle.ledger.specs.Model.{RowModel, unused}
+use Rattle.ledger.specs.Model.{unused}
 use Rattle.ledger.specs.View.{row_view}
 use Rattle.ledger.specs.declared.job.Version.{Version}
 use Rattle.ledger.proofs.Views.{all_same}
