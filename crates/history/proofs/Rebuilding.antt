@@ -1,23 +1,22 @@
 -- Outlines and the order of conflicting jobs give back the leaves: who wrote a record before a job is decided job by job, and only conflicts matter.
 use Rattle.std.proofs.Common.{◌≡◌, ℕ, suc, ◌+◌, Bool, true, false, cond, eqb, List, [], ◌∷◌, map, is_some, Some, None, Option, sym, refl, ap, ◌∙◌, subst, arith}
-use Rattle.std.specs.List.{AllByRecursion}
+use Rattle.std.specs.List.{AllByRecursion, list_any}
 use Rattle.std.proofs.ByRecursion.{All-weaker}
 use Rattle.std.proofs.lemmas.Bool.{or_left, or_right, eq-eqb}
-use Rattle.bounded.specs.Searching.{any}
 use Rattle.ledger.specs.Limits.{last_job}
 use Rattle.ledger.specs.declared.job.Read.{Read}
 use Rattle.history.specs.Histories.{LeafWrite, Leaf, Outline, outline, wrote, used, writer_count, leaf_of, earlier, is_before, Fits, Serial}
 use Rattle.history.specs.Laws.{outline_if_any, SameOutlines, SameOrder}
 use Rattle.history.proofs.Positions.{fits_at, serial_earlier, leaf_earlier}
-use Rattle.history.proofs.Searches.{any_first, any_rest, any_map}
+use Rattle.history.proofs.Searches.{list_any-map}
 use Rattle.history.proofs.Counts.{below_same, wrote_if_any, writers_by_job}
 
 -- each element's record is one of the list's
-all_listed : {Q : Type 0} (number : Q → ℕ) (qs : List Q) → AllByRecursion (λ q. any (λ p. eqb (number p) (number q)) qs ≡ true) qs
+all_listed : {Q : Type 0} (number : Q → ℕ) (qs : List Q) → AllByRecursion (λ q. list_any (λ p. eqb (number p) (number q)) qs ≡ true) qs
 all_listed number [] = tt
 all_listed number (p ∷ qs) = (
-  any_first (λ o. eqb (number o) (number p)) p qs (eq-eqb (number p) (number p) refl),
-  All-weaker (λ q. any (λ o. eqb (number o) (number q)) qs ≡ true) (λ q. any (λ o. eqb (number o) (number q)) (p ∷ qs) ≡ true) (λ q e. any_rest (λ o. eqb (number o) (number q)) p qs e) qs (all_listed number qs),
+  or_left _ (list_any (λ o. eqb (number o) (number p)) qs) (eq-eqb (number p) (number p) refl),
+  All-weaker (λ q. list_any (λ o. eqb (number o) (number q)) qs ≡ true) (λ q. list_any (λ o. eqb (number o) (number q)) (p ∷ qs) ≡ true) (λ q e. or_right (eqb (number p) (number q)) _ e) qs (all_listed number qs),
 )
 
 reads_same : (f g : ℕ → ℕ) (ps qs : List Read) → map (λ (q : Read). q.«record») ps ≡ map (λ (q : Read). q.«record») qs → AllByRecursion (λ q. f q.«record» ≡ g q.«record») ps → AllByRecursion (λ q. q.version ≡ f q.«record») ps → AllByRecursion (λ q. q.version ≡ g q.«record») qs → ps ≡ qs
@@ -46,8 +45,8 @@ module _ {V : Type 0} where
   -- two leaves with one outline and as many writers before them
   leaf_same : (x y : Leaf V) (g h : List (Leaf V)) → outline x ≡ outline y → Fits x g → Fits y h → ((r : ℕ) → used x r ≡ true → writer_count g r ≡ writer_count h r) → x ≡ y
   leaf_same x y g h e p q same =
-      let read_counts = All-weaker (λ q. any (λ p. eqb p.«record» q.«record») x.reads ≡ true) (λ q. writer_count g q.«record» ≡ writer_count h q.«record») (λ q t. same q.«record» (or_left _ (wrote x q.«record») t)) x.reads (all_listed (λ q. q.«record») x.reads) in
-      let write_counts = All-weaker (λ w. any (λ p. eqb p.«record» w.«record») x.writes ≡ true) (λ w. writer_count g w.«record» ≡ writer_count h w.«record») (λ w t. same w.«record» (or_right (any (λ q. eqb q.«record» w.«record») x.reads) _ t)) x.writes (all_listed (λ w. w.«record») x.writes) in
+      let read_counts = All-weaker (λ q. list_any (λ p. eqb p.«record» q.«record») x.reads ≡ true) (λ q. writer_count g q.«record» ≡ writer_count h q.«record») (λ q t. same q.«record» (or_left _ (wrote x q.«record») t)) x.reads (all_listed (λ q. q.«record») x.reads) in
+      let write_counts = All-weaker (λ w. list_any (λ p. eqb p.«record» w.«record») x.writes ≡ true) (λ w. writer_count g w.«record» ≡ writer_count h w.«record») (λ w t. same w.«record» (or_right (list_any (λ q. eqb q.«record» w.«record») x.reads) _ t)) x.writes (all_listed (λ w. w.«record») x.writes) in
       let reads = reads_same (writer_count g) (writer_count h) x.reads y.reads (ap (λ o. o.read) e) read_counts p.read q.read in
       let writes = writes_same (writer_count g) (writer_count h) x.writes y.writes (ap (λ o. o.written) e) write_counts p.written q.written in
       let job = ap (λ o. o.job) e in
@@ -57,11 +56,11 @@ module _ {V : Type 0} where
   -- whether a leaf wrote r shows in its outline
   abbrev wrote_by_outline : ℕ → Option (Outline V) → ℕ
   wrote_by_outline r None = 0
-  wrote_by_outline r (Some o) = cond (any (λ (w : ℕ × V). eqb w.0 r) o.written) 1 0
+  wrote_by_outline r (Some o) = cond (list_any (λ (w : ℕ × V). eqb w.0 r) o.written) 1 0
 
   wrote_outlined : (r : ℕ) (p : Option (Leaf V)) → wrote_if_any r p ≡ wrote_by_outline r (outline_if_any p)
   wrote_outlined r None = refl
-  wrote_outlined r (Some x) = ap (λ b. cond b 1 0) (sym (any_map (λ (w : ℕ × V). eqb w.0 r) (λ (w : LeafWrite V). (w.«record», w.value)) x.writes))
+  wrote_outlined r (Some x) = ap (λ b. cond b 1 0) (sym (list_any-map (λ (w : ℕ × V). eqb w.0 r) (λ (w : LeafWrite V). (w.«record», w.value)) x.writes))
 
   wrote_earlier : (r i j : ℕ) (h : List (Leaf V)) → Serial h → wrote_if_any r (leaf_of (earlier h j) i) ≡ cond (is_before h i j) (wrote_if_any r (leaf_of h i)) 0
   wrote_earlier r i j h s = go (leaf_of (earlier h j) i) refl

@@ -1,7 +1,6 @@
 -- Leaves, histories of them, and what makes a history serial; `src/lib.rt` and the archive's layout cite it. Assumes nothing.
 use Rattle.std.specs.Prelude.{◌≡◌, ℕ, suc, ◌+◌, ◌≤◌, Bool, true, cond, ◌||◌, List, [], ◌∷◌, map, is_some, Some, None, Option, ◌==◌, nat_eq}
-use Rattle.std.specs.List.{AllByRecursion}
-use Rattle.bounded.specs.Searching.{any}
+use Rattle.std.specs.List.{AllByRecursion, list_any}
 use Rattle.ledger.specs.Limits.{last_job}
 use Rattle.ledger.specs.declared.job.JobKind.{JobKind}
 use Rattle.ledger.specs.declared.job.Read.{Read}
@@ -38,11 +37,11 @@ module _ {V : Type 0} where
       }
 
   abbrev pub wrote : Leaf V → ℕ → Bool
-  wrote x r = any (λ w. nat_eq w.«record» r) x.writes
+  wrote x r = list_any (λ w. nat_eq w.«record» r) x.writes
 
   -- read or wrote
   abbrev pub used : Leaf V → ℕ → Bool
-  used x r = any (λ q. nat_eq q.«record» r) x.reads || wrote x r
+  used x r = list_any (λ q. nat_eq q.«record» r) x.reads || wrote x r
 
   -- the two share a record that either wrote
   abbrev pub Conflict : Leaf V → Leaf V → Type 0
