@@ -31,8 +31,8 @@ module _ (c : Cursor) where
       ∙ ap (at c (n + suc (length q))) (append_assoc p (x ∷ []) (q ++ drop (length q) b))
 
 -- what is put from the start of a long enough buffer stands there, and the rest of the buffer stays
-pub put_whole : (q : List ℕ) (c : Cursor) → c.position ≡ 0 → length q ≤ length c.buffer.now → (put_bytes q c).buffer.now ≡ in_front q c.buffer.now
-put_whole q c e h = ap (λ n. (put_bytes q (at c n c.buffer.now)).buffer.now) e ∙ ap (λ (k : Cursor). k.buffer.now) (put_in c q [] c.buffer.now 0 refl h)
+pub put_whole : (q : List ℕ) (c : Cursor) → c.position ≡ 0 → length q ≤ length c.buffer.now → put_bytes q c ≡ at c (length q) (in_front q c.buffer.now)
+put_whole q c e h = ap (λ n. put_bytes q (at c n c.buffer.now)) e ∙ put_in c q [] c.buffer.now 0 refl h ∙ ap (λ n. at c n (in_front q c.buffer.now)) (omega arith)
 
 -- one turn of a loop, whose rest of the pieces makes t of what is there so far
 module _ (c d t : Cursor) where

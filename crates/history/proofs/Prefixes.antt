@@ -1,7 +1,7 @@
 -- The archive's bytes determine its leaves: no code of a part is the beginning of another code of it, piece by piece.
 use Rattle.std.proofs.Common.{◌≡◌, ℕ, zero, suc, ◌+◌, ◌%◌, ◌<◌, ◌≤◌, List, [], ◌∷◌, ◌++◌, length, take, drop, Some, None, Option, sym, refl, ap, ◌∙◌, subst, inl, inr, append_assoc, arith, take_at, drop_at}
 use mathlib.Core.List.{nil≢cons, cons≢nil}
-use Rattle.std.specs.List.{flat_map, AllByRecursion}
+use Rattle.std.specs.List.{flat_map, cons_option, AllByRecursion}
 use Rattle.std.proofs.lemmas.Bool.{cases_eq, cases_lt}
 use Rattle.std.proofs.lemmas.Bool.Decides.{nat_tests}
 use Rattle.encoding.specs.Frames.{counted}
@@ -9,7 +9,7 @@ use Rattle.ledger.specs.Limits.{last_job}
 use Rattle.ledger.specs.declared.job.JobKind.{JobKind}
 use Rattle.ledger.specs.declared.job.JobKind.TheVariants.{Amendment, Inspection}
 use Rattle.history.specs.Histories.{Leaf, leaf_of, Serial}
-use Rattle.history.specs.Layout.{Coding, leaf_frame, read_bytes, write_bytes, leaf_bytes, with_first, rising, leaves, head_bytes, archive_bytes, archive}
+use Rattle.history.specs.Layout.{Coding, leaf_frame, read_bytes, write_bytes, leaf_bytes, rising, leaves, head_bytes, archive_bytes, archive}
 use Rattle.history.specs.Laws.{Lawful}
 use Rattle.history.proofs.Positions.{fits_at, job_of_leaf}
 
@@ -78,7 +78,7 @@ module _ {V : Type 0} where
   rising_low j k zero h l = refl
   rising_low j k (suc n) h l = go (leaf_of h k) refl (rising_low j (suc k) n h (omega arith))
     where
-      go : (p : Option (Leaf V)) → leaf_of h k ≡ p → leaf_of (rising (suc k) n h) j ≡ None → leaf_of (with_first p (rising (suc k) n h)) j ≡ None
+      go : (p : Option (Leaf V)) → leaf_of h k ≡ p → leaf_of (rising (suc k) n h) j ≡ None → leaf_of (cons_option p (rising (suc k) n h)) j ≡ None
       go None e r = r
       go (Some x) e r = let m = job_of_leaf h k x e in grind (arith, nat_tests)
 
@@ -86,7 +86,7 @@ module _ {V : Type 0} where
   rising_at j k zero h l m = absurd (omega arith)
   rising_at j k (suc n) h l m = go (leaf_of h k) refl (rising_low j (suc k) n h) (rising_at j (suc k) n h)
     where
-      go : (p : Option (Leaf V)) → leaf_of h k ≡ p → (j < suc k → leaf_of (rising (suc k) n h) j ≡ None) → (suc k ≤ j → j < suc k + n → leaf_of (rising (suc k) n h) j ≡ leaf_of h j) → leaf_of (with_first p (rising (suc k) n h)) j ≡ leaf_of h j
+      go : (p : Option (Leaf V)) → leaf_of h k ≡ p → (j < suc k → leaf_of (rising (suc k) n h) j ≡ None) → (suc k ≤ j → j < suc k + n → leaf_of (rising (suc k) n h) j ≡ leaf_of h j) → leaf_of (cons_option p (rising (suc k) n h)) j ≡ leaf_of h j
       go None e low at = elim (cases_eq k j) [
         | inl q ↦ low (omega arith) ∙ sym (subst (λ z. leaf_of h z ≡ None) q e)
         | inr q ↦ at (omega arith) (omega arith)
@@ -100,13 +100,13 @@ module _ {V : Type 0} where
   rising_small k zero h s = tt
   rising_small k (suc n) h s = go (leaf_of h k) refl (rising_small (suc k) n h s)
     where
-      go : (p : Option (Leaf V)) → leaf_of h k ≡ p → AllByRecursion (λ x. x.job ≤ last_job) (rising (suc k) n h) → AllByRecursion (λ x. x.job ≤ last_job) (with_first p (rising (suc k) n h))
+      go : (p : Option (Leaf V)) → leaf_of h k ≡ p → AllByRecursion (λ x. x.job ≤ last_job) (rising (suc k) n h) → AllByRecursion (λ x. x.job ≤ last_job) (cons_option p (rising (suc k) n h))
       go None e r = r
       go (Some x) e r = ((fits_at h k x s e).small, r)
 
   rising_same : (k n : ℕ) (g h : List (Leaf V)) → ((j : ℕ) → leaf_of g j ≡ leaf_of h j) → rising k n g ≡ rising k n h
   rising_same k zero g h e = refl
-  rising_same k (suc n) g h e = λ i. with_first (e k i) (rising_same (suc k) n g h e i)
+  rising_same k (suc n) g h e = λ i. cons_option (e k i) (rising_same (suc k) n g h e i)
 
   leaves_same : (g h : List (Leaf V)) → ((j : ℕ) → leaf_of g j ≡ leaf_of h j) → leaves g ≡ leaves h
   unfolding leaves

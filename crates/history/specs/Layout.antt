@@ -1,6 +1,6 @@
 -- The archive as bytes: a head frame and one frame for each leaf; `src/lib.rt` and the archive's writer cite it. Assumes nothing.
-use Rattle.std.specs.Prelude.{ℕ, zero, suc, ◌+◌, List, [], ◌∷◌, ◌++◌, length, Some, None, Option}
-use Rattle.std.specs.List.{flat_map}
+use Rattle.std.specs.Prelude.{ℕ, zero, suc, ◌+◌, List, [], ◌∷◌, ◌++◌, length}
+use Rattle.std.specs.List.{flat_map, cons_option}
 use Rattle.encoding.specs.Bytes.{little_endian}
 use Rattle.encoding.specs.Frames.{frame, counted}
 use Rattle.values.specs.declared.value.Value.{Ghosts as Kind}
@@ -39,15 +39,11 @@ module _ {V : Type 0} (C : Coding V) where
   abbrev pub leaf_bytes : Leaf V → List ℕ
   leaf_bytes x = frame (leaf_frame x.kind) (little_endian 2 x.job ++ (counted read_bytes x.reads ++ counted write_bytes x.writes))
 
-abbrev pub with_first : {X : Type 0} → Option X → List X → List X
-with_first None xs = xs
-with_first (Some x) xs = x ∷ xs
-
 module _ {V : Type 0} where
   -- the leaves of the n jobs from k on, in rising job number
   abbrev pub rising : ℕ → ℕ → List (Leaf V) → List (Leaf V)
   rising k zero h = []
-  rising k (suc n) h = with_first (leaf_of h k) (rising (suc k) n h)
+  rising k (suc n) h = cons_option (leaf_of h k) (rising (suc k) n h)
 
   -- the leaves in rising job number
   unfoldable pub leaves : List (Leaf V) → List (Leaf V)

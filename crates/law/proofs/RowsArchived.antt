@@ -4,7 +4,7 @@ use Rattle.ledger.specs.Model.{RowModel, LedgerModel, no_row, row, is_answered}
 use Rattle.ledger.specs.declared.job.State.{State}
 use Rattle.ledger.specs.declared.job.State.TheVariants.{Answered}
 use Rattle.history.specs.Histories.{Leaf, leaf_of}
-use Rattle.history.specs.Layout.{with_first, rising, leaves, archive_bytes}
+use Rattle.history.specs.Layout.{rising, leaves, archive_bytes}
 use Rattle.shelves.specs.declared.fault.ShelfFault.TheVariants.{NoSuchPlace}
 use Rattle.archive.specs.Leaves.{leaf_if_answered, row_leaves, lacks_write, lacks_value}
 use Rattle.protocol.proofs.JobLists.{all_at}
@@ -41,7 +41,7 @@ module _ {V : Type 0} where
   rows_rise items h k (x ∷ xs) e =
       let first : leaf_of h k ≡ leaf_if_answered items k x = subst (λ n. leaf_of h n ≡ leaf_if_answered items n x) (omega arith) (e 0 (omega arith)) in
       let rest = rows_rise items h (suc k) xs (λ i l. subst (λ n. leaf_of h n ≡ leaf_if_answered items n (get_or xs i no_row)) (omega arith) (e (suc i) (omega arith))) in
-      λ i. with_first (first i) (rest i)
+      λ i. cons_option (first i) (rest i)
 
   module _ (p : Progress V) (T : Tied p) where
     abbrev m : HouseModel V
