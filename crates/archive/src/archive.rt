@@ -7,6 +7,7 @@ use ledger::ledger::Ledger;
 use shelves::shelf::Shelf;
 
 // The ledger has the answered jobs, and the shelf has their values.
+#[derive(Drop)]
 pub struct Archive<'a, S: Shelf> {
     pub ledger: &'a Ledger,
     pub shelf: &'a S,

@@ -1,24 +1,15 @@
 -- The archive of a house by its answered jobs: its leaves, its bytes, what the call tells and what the buffer then holds. Runs and the law go by it; the code goes by `RowArchiving`. Assumes nothing.
 use Rattle.std.specs.Prelude.{ℕ, Bool, cond, List, ◌++◌, map, length, drop, Ok, Err, Result, nat_le, nat_lt}
-use Rattle.bounded.specs.Searching.{any}
+use Rattle.std.specs.List.{list_any}
 use Rattle.shelves.specs.declared.fault.ShelfFault.TheVariants.{NoSuchPlace}
 use Rattle.ledger.specs.Model.{row}
 use Rattle.history.specs.Histories.{Leaf}
-use Rattle.history.specs.Layout.{archive}
+use Rattle.history.specs.Layout.{Coding, archive}
 use Rattle.archive.specs.Leaves.{leaf_writes}
 use Rattle.house.specs.Faults.{kept}
 use Rattle.house.specs.Model.{HouseModel}
 use Rattle.house.specs.declared.fault.Fault.{Fault}
 use Rattle.house.specs.declared.fault.Fault.TheVariants as fault
-
--- a kind of value: its encoding, its number and its width
-pub record Coding (V : Type 0) : Type 0 where
-  pub bytes : V → List ℕ
-  pub kind : ℕ
-  pub width : ℕ
-
-abbrev pub coding : {V : Type 0} → (V → List ℕ) → ℕ → ℕ → Coding V
-coding bytes kind width = record { bytes = bytes; kind = kind; width = width }
 
 module _ {V : Type 0} where
   -- the leaf of a job, by its row
@@ -32,11 +23,11 @@ module _ {V : Type 0} where
 
   -- the shelf lacks a value of an answered job, which no run meets
   abbrev pub lacks_value : HouseModel V → Bool
-  lacks_value m = any (λ j. any (λ w. nat_le (length m.items) w.place) (row m.ledger j).writes) m.ledger.answered
+  lacks_value m = list_any (λ j. list_any (λ w. nat_le (length m.items) w.place) (row m.ledger j).writes) m.ledger.answered
 
 module _ {V : Type 0} (C : Coding V) where
   abbrev pub house_archive : HouseModel V → List ℕ
-  house_archive m = archive C.bytes C.kind C.width (house_leaves m)
+  house_archive m = archive C (house_leaves m)
 
   -- into a buffer of n bytes: the size, or the size that it needs
   abbrev pub archive_told : HouseModel V → ℕ → Result ℕ Fault

@@ -1,6 +1,6 @@
 -- What a log says of jobs and records, by the calls and what they told alone; the newest event stands first. Assumes nothing.
 use Rattle.std.specs.Prelude.{◌≡◌, ℕ, ◌+◌, Bool, true, cond, not, ◌&&◌, ◌||◌, List, [], ◌∷◌, ◌++◌, map, Some, None, Ok, Err, Option, Result, ◌==◌, nat_eq}
-use Rattle.bounded.specs.Searching.{any}
+use Rattle.std.specs.List.{list_any}
 use Rattle.ledger.specs.declared.job.JobKind.{JobKind}
 use Rattle.ledger.specs.declared.job.JobKind.TheVariants.{Amendment}
 use Rattle.history.specs.Histories.{Leaf, Outline}
@@ -10,9 +10,11 @@ use Rattle.house.specs.declared.call.Call.{Call}
 use Rattle.house.specs.declared.call.Call.TheVariants.{Open, Read, Write, HandIn, Deliver, Collect, Close, Withdraw, Archive}
 use Rattle.house.specs.declared.call.Told.{Told}
 use Rattle.house.specs.declared.call.Told.TheVariants as told
+use Rattle.house.specs.declared.reading.Reading.TheVariants as reading
+use Rattle.ledger.specs.declared.job.Collected.TheVariants as collected
 
 abbrev pub contains : List ℕ → ℕ → Bool
-contains xs x = any (λ y. nat_eq y x) xs
+contains xs x = list_any (λ y. nat_eq y x) xs
 
 -- of a list with the newest first: what stands before, that is behind, the first occurrence
 abbrev pub before : List ℕ → ℕ → List ℕ
@@ -35,20 +37,17 @@ module _ {V : Type 0} where
 
   abbrev pub unless_own : Told V → Occurrence V → Occurrence V
   unless_own told.Done x = x
-  unless_own told.Blank x = x
-  unless_own (told.Own v) x = nothing
-  unless_own (told.Version n v) x = x
-  unless_own told.Answered x = x
-  unless_own (told.Dropped mark) x = x
+  unless_own (told.Read reading.Blank) x = x
+  unless_own (told.Read (reading.Own v)) x = nothing
+  unless_own (told.Read (reading.Version n v)) x = x
+  unless_own (told.Collected c) x = x
   unless_own (told.Archived size) x = x
 
   abbrev pub if_answered : Told V → Occurrence V → Occurrence V
   if_answered told.Done x = nothing
-  if_answered told.Blank x = nothing
-  if_answered (told.Own v) x = nothing
-  if_answered (told.Version n v) x = nothing
-  if_answered told.Answered x = x
-  if_answered (told.Dropped mark) x = nothing
+  if_answered (told.Read y) x = nothing
+  if_answered (told.Collected collected.Answered) x = x
+  if_answered (told.Collected (collected.Dropped mark)) x = nothing
   if_answered (told.Archived size) x = nothing
 
   abbrev pub if_told : (Told V → Occurrence V → Occurrence V) → Result (Told V) Fault → Occurrence V → Occurrence V
@@ -132,7 +131,7 @@ module _ {V : Type 0} where
   is_earlier_in log i j = contains (before (answered_in log) j) i
 
   abbrev pub wrote_in : List (Event V) → ℕ → ℕ → Bool
-  wrote_in log j r = any (λ (x : ℕ × V). nat_eq x.0 r) (writes_in log j)
+  wrote_in log j r = list_any (λ (x : ℕ × V). nat_eq x.0 r) (writes_in log j)
 
   -- read or wrote
   abbrev pub used_in : List (Event V) → ℕ → ℕ → Bool

@@ -4,7 +4,7 @@ use Rattle.std.proofs.Common.{◌≡◌, ℕ, zero, suc, pred, ◌<◌, ◌≤�
 use Rattle.std.specs.List.{cons_option, slice_get, AllByRecursion}
 use Rattle.std.proofs.lemmas.Bool.Decides.{nat_tests}
 use Rattle.std.proofs.ByRecursion.{All-weaker}
-use Rattle.bounded.specs.Searching.{any}
+use Rattle.std.specs.List.{list_any}
 use Rattle.ledger.specs.Model.{LedgerModel, row, first_unseen, has_written, installed_version}
 use Rattle.ledger.specs.Reading.{newest, is_new_read}
 use Rattle.ledger.specs.declared.job.Read.{Read}
@@ -235,15 +235,15 @@ module _ {V : Type 0} where
       go true e i = rw (s.1, e) (sym (ap (λ t. cond {A = Option V} t None (Some s.0)) (eqb_suc x.version)))
       go false e i = rw (s.1, e) i
 
-  pub any_valued : (vs : List V) (xs : List Read) (r : ℕ) → Within (length vs) xs → any (λ (x : ℕ × V). eqb x.0 r) (valued vs xs) ≡ not (eqb (first_unseen xs r) 0)
+  pub any_valued : (vs : List V) (xs : List Read) (r : ℕ) → Within (length vs) xs → list_any (λ (x : ℕ × V). eqb x.0 r) (valued vs xs) ≡ not (eqb (first_unseen xs r) 0)
   any_valued vs [] r a = refl
   any_valued vs (x ∷ xs) r a = go (eqb x.«record» r) refl (any_valued vs xs r a.1)
     where
       s : (u : V) × (slice_get vs x.version ≡ Some u)
       s = nth_some vs x.version a.0
 
-      go : (b : Bool) → eqb x.«record» r ≡ b → any (λ (x : ℕ × V). eqb x.0 r) (valued vs xs) ≡ not (eqb (first_unseen xs r) 0) →
-          any (λ (x : ℕ × V). eqb x.0 r) (cons_option (paired x.«record» (slice_get vs x.version)) (valued vs xs)) ≡ not (eqb (cond b (suc x.version) (first_unseen xs r)) 0)
+      go : (b : Bool) → eqb x.«record» r ≡ b → list_any (λ (x : ℕ × V). eqb x.0 r) (valued vs xs) ≡ not (eqb (first_unseen xs r) 0) →
+          list_any (λ (x : ℕ × V). eqb x.0 r) (cons_option (paired x.«record» (slice_get vs x.version)) (valued vs xs)) ≡ not (eqb (cond b (suc x.version) (first_unseen xs r)) 0)
       go true e i = rw (s.1, e) (sym (ap not (eqb_suc x.version)))
       go false e i = rw (s.1, e) i
 
@@ -279,6 +279,6 @@ module _ {V : Type 0} where
       go (Some v) i = λ k. record { «record» = w.«record»; version = a.0 k; value = v } ∷ i k
 
   -- no place is missing
-  pub none_missing : (vs : List V) (ws : List Write) → Within (length vs) (entries ws) → any (λ w. leb (length vs) w.place) ws ≡ false
+  pub none_missing : (vs : List V) (ws : List Write) → Within (length vs) (entries ws) → list_any (λ w. leb (length vs) w.place) ws ≡ false
   none_missing vs [] a = refl
   none_missing vs (w ∷ ws) a = let i = none_missing vs ws a.1 in let z = a.0 in grind arith

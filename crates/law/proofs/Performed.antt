@@ -1,6 +1,6 @@
 -- A call that runs continues every run that leads to the house where it starts; and there its archive by the rows is that of the answered jobs.
 use Rattle.std.proofs.Common.{◌≡◌, ℕ, List, length, Result, sym, refl, ap, ◌∙◌}
-use Rattle.house.specs.Archiving.{Coding}
+use Rattle.history.specs.Layout.{Coding}
 use Rattle.house.specs.Model.{HouseModel}
 use Rattle.house.specs.Runs.{told_as, call_told, call_after, Progress, proceeds}
 use Rattle.house.specs.declared.fault.Fault.{Fault}

@@ -1,7 +1,8 @@
 -- What a call that runs does, and how it continues the runs of the rules; `src/perform.rt` and `src/lib.rt` cite it. Assumes nothing.
 use Rattle.std.specs.Prelude.{◌≡◌, ℕ, false, List, ◌∷◌, ◌++◌, length, Some, None, Ok, Option, Result}
 use Rattle.house.specs.Model.{HouseModel}
-use Rattle.house.specs.Archiving.{Coding, house_archive, buffer_after}
+use Rattle.history.specs.Layout.{Coding}
+use Rattle.house.specs.Archiving.{house_archive, buffer_after}
 use Rattle.house.specs.RowArchiving.{rows_lack, rows_archive, rows_told, rows_buffer}
 use Rattle.house.specs.Runs.{told_as, call_told, Event, Progress, proceeded, Run}
 use Rattle.house.specs.Log.{writes_in, value_of}
@@ -10,6 +11,7 @@ use Rattle.house.specs.declared.call.Call.{Call}
 use Rattle.house.specs.declared.call.Call.TheVariants.{Open, Read, Write, HandIn, Deliver, Collect, Close, Withdraw, Archive}
 use Rattle.house.specs.declared.call.Told.{Told}
 use Rattle.house.specs.declared.call.Told.TheVariants as told
+use Rattle.house.specs.declared.reading.Reading.TheVariants as reading
 
 module _ {V : Type 0} where
   -- a call with a buffer of so many bytes beside it: the archive gets the whole buffer, whatever length its call names
@@ -27,11 +29,10 @@ module _ {V : Type 0} where
   -- the value that was told as own
   abbrev pub own_value : Told V → Option V
   own_value told.Done = None
-  own_value told.Blank = None
-  own_value (told.Own v) = Some v
-  own_value (told.Version n v) = None
-  own_value told.Answered = None
-  own_value (told.Dropped mark) = None
+  own_value (told.Read reading.Blank) = None
+  own_value (told.Read (reading.Own v)) = Some v
+  own_value (told.Read (reading.Version n v)) = None
+  own_value (told.Collected c) = None
   own_value (told.Archived size) = None
 
 module _ {V : Type 0} (C : Coding V) where
