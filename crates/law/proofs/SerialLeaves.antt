@@ -61,7 +61,7 @@ module _ {V : Type 0} where
     leaf_of_jobs (x ∷ js) j = go (eqb x j) refl (leaf_of_jobs js j)
       where
         go : (b : Bool) → eqb x j ≡ b → leaf_of (map (job_leaf m) js) j ≡ cond (contains js j) (Some (job_leaf m j)) None →
-            cond b (Some (job_leaf m x)) (leaf_of (map (job_leaf m) js) j) ≡ cond (cond b true (contains js j)) (Some (job_leaf m j)) None
+            cond b (Some (job_leaf m x)) (leaf_of (map (job_leaf m) js) j) ≡ cond (b || contains js j) (Some (job_leaf m j)) None
         go true e i = ap (λ z. Some (job_leaf m z)) (eqb-true x j e)
         go false e i = i
 

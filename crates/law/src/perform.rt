@@ -22,15 +22,36 @@ fn dispatch<S: Shelf>(
     ensures buffer { buffer.new ≡ performed_buffer (coding S.Value.Value) (model S.items S.room house.old) call buffer.old }
 {
     match call {
-        Call::Open { job, kind } => house.open(job, kind).map(|()| Told::Done),
-        Call::Read { job, record } => house.read(job, record).map(Told::Read),
-        Call::Write { job, record, value } => house.write(job, record, value).map(|()| Told::Done),
-        Call::HandIn { job } => house.hand_in(job).map(|()| Told::Done),
-        Call::Deliver { job, office } => house.deliver(job, office).map(|()| Told::Done),
-        Call::Collect { job } => house.collect(job).map(Told::Collected),
-        Call::Close { job } => house.close(job).map(|()| Told::Done),
-        Call::Withdraw { job } => house.withdraw(job).map(|()| Told::Done),
-        Call::Archive { room: _ } => house.archive(buffer).map(|size| Told::Archived { size }),
+        Call::Open { job, kind } => {
+            house.open(job, kind)?;
+            Ok(Told::Done)
+        }
+        Call::Read { job, record } => Ok(Told::Read(house.read(job, record)?)),
+        Call::Write { job, record, value } => {
+            house.write(job, record, value)?;
+            Ok(Told::Done)
+        }
+        Call::HandIn { job } => {
+            house.hand_in(job)?;
+            Ok(Told::Done)
+        }
+        Call::Deliver { job, office } => {
+            house.deliver(job, office)?;
+            Ok(Told::Done)
+        }
+        Call::Collect { job } => Ok(Told::Collected(house.collect(job)?)),
+        Call::Close { job } => {
+            house.close(job)?;
+            Ok(Told::Done)
+        }
+        Call::Withdraw { job } => {
+            house.withdraw(job)?;
+            Ok(Told::Done)
+        }
+        Call::Archive { room: _ } => {
+            let size = house.archive(buffer)?;
+            Ok(Told::Archived { size })
+        }
     }
 }
 
