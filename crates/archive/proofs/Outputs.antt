@@ -9,7 +9,9 @@ use Rattle.encoding.specs.declared.cursor.Cursor.{Cursor}
 use Rattle.encoding.proofs.OutputLaws.{put_append}
 use Rattle.ledger.specs.Model.{RowModel, is_answered}
 use Rattle.ledger.specs.View.{row_view}
+use Rattle.ledger.specs.declared.job.Read.{Read}
 use Rattle.ledger.specs.declared.job.Row.{Row}
+use Rattle.ledger.specs.declared.job.Write.{Write}
 use Rattle.history.specs.Layout.{Coding, leaf_frame, read_bytes, write_bytes, leaf_bytes, head_bytes, archive_bytes}
 use Rattle.history.specs.Laws.{Lawful}
 use Rattle.history.proofs.Sizes.{length_leaf}
@@ -21,24 +23,26 @@ use Rattle.archive.proofs.RowLeaves.{leaf_sized}
 module _ {V : Type 0} (C : Coding V) (items : List V) where
   -- a leaf is written as the head of its frame, its job number, and each of the two lists behind its count
   module _ (lawful : Lawful C) (j : ℕ) (x : RowModel) (complete : lacks_write (length items) x.writes ≡ false) where
-    pub leaf_put : (size : ℕ) (c c1 c2 c3 c4 c5 c6 : Cursor) → size ≡ row_size C.width x →
-        c1 ≡ put_bytes (little_endian 4 (size - 4) ++ little_endian 2 (leaf_frame x.kind)) c →
-        c2 ≡ put_bytes (little_endian 2 j) c1 →
-        c3 ≡ put_bytes (length x.reads ∷ []) c2 →
-        c4 ≡ put_bytes (flat_map read_bytes x.reads) c3 →
-        c5 ≡ put_bytes (length x.writes ∷ []) c4 →
-        c6 ≡ put_bytes (flat_map (write_bytes C) (leaf_writes items x.writes)) c5 →
+    pub leaf_put : (size kind m n : ℕ) (job : List ℕ) (reads : List Read) (writes : List Write) (c c1 c2 c3 c4 c5 c6 : Cursor) →
+        size ≡ row_size C.width x → kind ≡ leaf_frame x.kind → job ≡ little_endian 2 j → m ≡ length x.reads → reads ≡ x.reads → n ≡ length x.writes → writes ≡ x.writes →
+        c1 ≡ put_bytes (little_endian 4 (size - 4) ++ little_endian 2 kind) c →
+        c2 ≡ put_bytes job c1 →
+        c3 ≡ put_bytes (m ∷ []) c2 →
+        c4 ≡ put_bytes (flat_map read_bytes reads) c3 →
+        c5 ≡ put_bytes (n ∷ []) c4 →
+        c6 ≡ put_bytes (flat_map (write_bytes C) (leaf_writes items writes)) c5 →
         c6 ≡ put_bytes (leaf_bytes C (row_leaf items j x)) c
-    leaf_put size c c1 c2 c3 c4 c5 c6 n p q r s t u =
-        let rs = counted read_bytes x.reads in
-        let ws = counted (write_bytes C) (leaf_writes items x.writes) in
-        let k : size - 4 ≡ 2 + length (little_endian 2 j ++ (rs ++ ws)) = omega (arith, length_leaf C lawful (row_leaf items j x), leaf_sized items C.width j x complete) in
-        let o : c1 ≡ put_bytes (little_endian 4 (2 + length (little_endian 2 j ++ (rs ++ ws))) ++ little_endian 2 (leaf_frame x.kind)) c =
-        p ∙ ap (λ z. put_bytes (little_endian 4 z ++ little_endian 2 (leaf_frame x.kind)) c) k in
-        let reads : c4 ≡ put_bytes rs c2 = s ∙ ap (put_bytes (flat_map read_bytes x.reads)) r in
-        let writes : c6 ≡ put_bytes ws c4 =
-        u ∙ ap (put_bytes (flat_map (write_bytes C) (leaf_writes items x.writes))) (t ∙ ap (λ m. put_bytes (m ∷ []) c4) (sym (length_leaf_writes items x.writes complete))) in
-        writes ∙ ap (put_bytes ws) reads ∙ sym (put_append rs ws c2) ∙ ap (put_bytes (rs ++ ws)) (q ∙ ap (put_bytes (little_endian 2 j)) o)
+    leaf_put size kind m n job reads writes c c1 c2 c3 c4 c5 c6 z k b p rs q ws e1 e2 e3 e4 e5 e6 =
+        let body = counted read_bytes x.reads ++ counted (write_bytes C) (leaf_writes items x.writes) in
+        let sized : size - 4 ≡ 2 + length (little_endian 2 j ++ body) = omega (arith, length_leaf C lawful (row_leaf items j x), leaf_sized items C.width j x complete) in
+        let head : c1 ≡ put_bytes (little_endian 4 (2 + length (little_endian 2 j ++ body)) ++ little_endian 2 (leaf_frame x.kind)) c =
+        e1 ∙ (λ i. put_bytes (little_endian 4 (sized i) ++ little_endian 2 (k i)) c) in
+        let first : c4 ≡ put_bytes (counted read_bytes x.reads) c2 = e4 ∙ (λ i. put_bytes (flat_map read_bytes (rs i)) (e3 i)) ∙ ap (λ h. put_bytes (h ∷ flat_map read_bytes x.reads) c2) p in
+        let second : c6 ≡ put_bytes (counted (write_bytes C) (leaf_writes items x.writes)) c4 =
+        e6 ∙ (λ i. put_bytes (flat_map (write_bytes C) (leaf_writes items (ws i))) (e5 i))
+        ∙ ap (λ h. put_bytes (h ∷ flat_map (write_bytes C) (leaf_writes items x.writes)) c4) (q ∙ sym (length_leaf_writes items x.writes complete)) in
+        second ∙ ap (put_bytes (counted (write_bytes C) (leaf_writes items x.writes))) first ∙ sym (put_append (counted read_bytes x.reads) (counted (write_bytes C) (leaf_writes items x.writes)) c2)
+        ∙ ap (put_bytes body) (e2 ∙ (λ i. put_bytes (b i) (head i)))
 
   -- a row whose job is answered, and one whose job is not
   module _ (j : ℕ) (x : RowModel) (xs : List RowModel) (c : Cursor) where

@@ -30,16 +30,22 @@ fn put_value<V: Value>(value: V, cursor: &mut Cursor<'_>)
 {
     let mut memory = [0u8; MOST_WIDTH];
     let width = V::byte_width();
-    value.encode(&mut memory[0..width]);
-    cursor.put_all(&memory[0..width]);
+    value.encode(&mut memory[..width]);
+    cursor.put_all(&memory[..width]);
+}
+
+fn put_read(read: &Read, cursor: &mut Cursor<'_>)
+    ensures { cursor.new ≡ put_bytes (read_bytes read.now) cursor.old }
+{
+    cursor.put(read.record);
+    cursor.put(read.version);
 }
 
 fn put_reads(reads: &[Read], cursor: &mut Cursor<'_>)
     ensures { cursor.new ≡ put_bytes (flat_map read_bytes reads.now) cursor.old }
 {
     for read in reads {
-        cursor.put(read.record);
-        cursor.put(read.version);
+        put_read(read, cursor);
     }
 }
 

@@ -6,7 +6,8 @@ use Rattle.std.proofs.lemmas.Bool.{or_left, or_right, eq-eqb}
 use Rattle.ledger.specs.Limits.{last_job}
 use Rattle.ledger.specs.declared.job.Read.{Read}
 use Rattle.history.specs.Histories.{LeafWrite, Leaf, Outline, outline, wrote, used, writer_count, leaf_of, earlier, is_before, Fits, Serial}
-use Rattle.history.specs.Laws.{outline_if_any, SameOutlines, SameOrder}
+use Rattle.std.specs.Option.{option_map}
+use Rattle.history.specs.Laws.{SameOutlines, SameOrder}
 use Rattle.history.proofs.Positions.{fits_at, serial_earlier, leaf_earlier}
 use Rattle.history.proofs.Searches.{list_any-map}
 use Rattle.history.proofs.Counts.{below_same, wrote_if_any, writers_by_job}
@@ -58,7 +59,7 @@ module _ {V : Type 0} where
   wrote_by_outline r None = 0
   wrote_by_outline r (Some o) = cond (list_any (λ (w : ℕ × V). eqb w.0 r) o.written) 1 0
 
-  wrote_outlined : (r : ℕ) (p : Option (Leaf V)) → wrote_if_any r p ≡ wrote_by_outline r (outline_if_any p)
+  wrote_outlined : (r : ℕ) (p : Option (Leaf V)) → wrote_if_any r p ≡ wrote_by_outline r (option_map outline p)
   wrote_outlined r None = refl
   wrote_outlined r (Some x) = ap (λ b. cond b 1 0) (sym (list_any-map (λ (w : ℕ × V). eqb w.0 r) (λ (w : LeafWrite V). (w.«record», w.value)) x.writes))
 
@@ -95,10 +96,10 @@ module _ {V : Type 0} where
       where
         go : (p q : Option (Leaf V)) → leaf_of g j ≡ p → leaf_of h j ≡ q → leaf_of g j ≡ leaf_of h j
         go None None e f = cc
-        go None (Some y) e f = let k : ◌≡◌ {A = Option (Outline V)} None (Some (outline y)) = ap outline_if_any (sym e) ∙ same j ∙ ap outline_if_any f in grind arith
-        go (Some x) None e f = let k : ◌≡◌ {A = Option (Outline V)} (Some (outline x)) None = ap outline_if_any (sym e) ∙ same j ∙ ap outline_if_any f in grind arith
+        go None (Some y) e f = let k : ◌≡◌ {A = Option (Outline V)} None (Some (outline y)) = ap (option_map outline) (sym e) ∙ same j ∙ ap (option_map outline) f in grind arith
+        go (Some x) None e f = let k : ◌≡◌ {A = Option (Outline V)} (Some (outline x)) None = ap (option_map outline) (sym e) ∙ same j ∙ ap (option_map outline) f in grind arith
         go (Some x) (Some y) e f =
-            let k : ◌≡◌ {A = Option (Outline V)} (Some (outline x)) (Some (outline y)) = ap outline_if_any (sym e) ∙ same j ∙ ap outline_if_any f in
+            let k : ◌≡◌ {A = Option (Outline V)} (Some (outline x)) (Some (outline y)) = ap (option_map outline) (sym e) ∙ same j ∙ ap (option_map outline) f in
             let alike : outline x ≡ outline y = cc in
             let counts : (r : ℕ) → used x r ≡ true → writer_count (earlier g j) r ≡ writer_count (earlier h j) r =
             (λ r t. writers_by_job r (earlier g j) (serial_earlier g j sg) ∙ below_same (last_job + 1) _ _ (λ i. each_earlier r i j x e t) ∙ sym (writers_by_job r (earlier h j) (serial_earlier h j sh))) in

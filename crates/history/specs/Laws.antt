@@ -1,6 +1,7 @@
 -- What holds of serial histories and their archives, for any kind of value; `src/lib.rt` cites it. Assumes nothing.
-use Rattle.std.specs.Prelude.{◌≡◌, ℕ, ◌+◌, ◌*◌, ◌↔◌, List, length, Some, None, sum_by, Option}
-use Rattle.history.specs.Histories.{Leaf, Outline, outline, Conflict, leaf_of, is_before, Serial}
+use Rattle.std.specs.Prelude.{◌≡◌, ℕ, ◌+◌, ◌*◌, ◌↔◌, List, length, Some, sum_by}
+use Rattle.std.specs.Option.{option_map}
+use Rattle.history.specs.Histories.{Leaf, outline, Conflict, leaf_of, is_before, Serial}
 use Rattle.history.specs.Layout.{Coding, archive, leaves}
 
 -- what the theorems need of a kind of value; the laws of the trait `Value` give it
@@ -9,13 +10,9 @@ pub record Lawful {V : Type 0} (C : Coding V) : Type 0 where
   pub apart : (v w : V) → C.bytes v ≡ C.bytes w → v ≡ w
 
 module _ {V : Type 0} where
-  abbrev pub outline_if_any : Option (Leaf V) → Option (Outline V)
-  outline_if_any None = None
-  outline_if_any (Some x) = Some (outline x)
-
   -- the same jobs, each with the same outline
   abbrev pub SameOutlines : List (Leaf V) → List (Leaf V) → Type 0
-  SameOutlines g h = (j : ℕ) → outline_if_any (leaf_of g j) ≡ outline_if_any (leaf_of h j)
+  SameOutlines g h = (j : ℕ) → option_map outline (leaf_of g j) ≡ option_map outline (leaf_of h j)
 
   -- every two jobs that conflict stand in the same order
   abbrev pub SameOrder : List (Leaf V) → List (Leaf V) → Type 0

@@ -9,7 +9,8 @@ use Rattle.ledger.specs.declared.job.State.TheVariants.{Answered}
 use Rattle.ledger.specs.declared.job.Read.{Read}
 use Rattle.ledger.specs.declared.job.Write.{Write}
 use Rattle.history.specs.Histories.{LeafWrite, Leaf, outline, writer_count, leaf_of, earlier, is_before, Serial}
-use Rattle.history.specs.Laws.{Lawful, outline_if_any, SameOutlines, SameOrder}
+use Rattle.std.specs.Option.{option_map}
+use Rattle.history.specs.Laws.{Lawful, SameOutlines, SameOrder}
 use Rattle.history.proofs.Searches.{list_any-map}
 use Rattle.history.proofs.Agreement.{archives_agree}
 use Rattle.history.proofs.ValueLaws.{lawful}
@@ -147,12 +148,12 @@ module _ {V : Type 0} where
         serial_jobs l.answered (answered_in_series (matched p T)) (answered_different (matched p T))
         (All-weaker (λ j. (row l j).state ≡ Answered) (λ j. j < last_job + 1) (has_row (matched p T)) l.answered (answered_rows (matched p T)))
 
-    entry_is : (j : ℕ) → outline_if_any (leaf_of (house_leaves m) j) ≡ entry_in log j
+    entry_is : (j : ℕ) → option_map outline (leaf_of (house_leaves m) j) ≡ entry_in log j
     entry_is j =
-        ap outline_if_any (leaf_of_jobs m l.answered j) ∙ go (contains l.answered j) ∙ ap (λ o. cond (contains l.answered j) (Some o) None) (outline_is j)
+        ap (option_map outline) (leaf_of_jobs m l.answered j) ∙ go (contains l.answered j) ∙ ap (λ o. cond (contains l.answered j) (Some o) None) (outline_is j)
         ∙ ap (λ js. cond (contains js j) (Some (outline_in log j)) None) T.answers
       where
-        go : (b : Bool) → outline_if_any (cond b (Some (job_leaf m j)) None) ≡ cond b (Some (outline (job_leaf m j))) None
+        go : (b : Bool) → option_map outline (cond b (Some (job_leaf m j)) None) ≡ cond b (Some (outline (job_leaf m j))) None
         go true = refl
         go false = refl
 

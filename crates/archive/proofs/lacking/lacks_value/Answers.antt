@@ -1,5 +1,4 @@
 use Rattle.std.proofs.Common.{◌&&◌, map, sym, ap, ◌∙◌}
-use Rattle.std.specs.List.{list_any}
 use Rattle.history.proofs.Searches.{list_any-map}
 use Rattle.ledger.specs.Model.{RowModel, is_answered}
 use Rattle.ledger.specs.View.{row_view}
