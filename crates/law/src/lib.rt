@@ -32,6 +32,7 @@ pub fn rows_archived<V: Value>()
 {}
 
 // Two runs of the same jobs in different orders have one archive.
+#[tactic(auto, unfolding(history::specs::Layout::leaves, history::specs::Layout::archive_bytes))]
 pub fn alike_runs()
     ensures { Alike }
 {}
@@ -47,6 +48,7 @@ pub fn crossing_inspections()
 {}
 
 // Worked cases of the rules, each by computation.
+#[tactic(auto, unfolding(history::specs::Layout::leaves, history::specs::Layout::archive_bytes))]
 pub fn figures_stand()
     ensures { Figures }
 {}

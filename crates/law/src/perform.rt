@@ -48,7 +48,7 @@ fn dispatch<S: Shelf>(
             house.withdraw(job)?;
             Ok(Told::Done)
         }
-        Call::Archive { room: _ } => {
+        Call::Archive { .. } => {
             let size = house.archive(buffer)?;
             Ok(Told::Archived { size })
         }
