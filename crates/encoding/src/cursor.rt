@@ -5,6 +5,7 @@ ghost use Rattle.encoding.specs.Bytes.{little_endian};
 ghost use Rattle.encoding.specs.Outputs.{put_bytes};
 
 // A buffer that is lent for writing, and the position of the next byte in it.
+// A type of its own, since the kit's writers (`std::io::Write`, `bytes::BufMut`) fill buffers of their own or lists on the heap, and none fills a lent slice.
 #[derive(Drop)]
 pub struct Cursor<'a> {
     pub buffer: &'a mut [u8],

@@ -28,6 +28,7 @@ pub fn all_archived<V: Value>()
 {}
 
 // Small histories whose archives are equal, and others whose archives differ.
+#[tactic(auto, unfolding(crate::specs::Layout::leaves, crate::specs::Layout::archive_bytes))]
 pub fn examples_stand()
     ensures { Examples }
 {}

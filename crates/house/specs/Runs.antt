@@ -1,5 +1,6 @@
 -- A step of the house for each call, and runs: any list of calls to a newly built house, with what they told. Assumes nothing.
-use Rattle.std.specs.Prelude.{ℕ, List, [], ◌∷◌, Ok, Err, Result}
+use Rattle.std.specs.Prelude.{ℕ, List, [], ◌∷◌, Result}
+use Rattle.std.specs.Result.{result_map_both}
 use Rattle.ledger.specs.Model.{LedgerModel}
 use Rattle.protocol.specs.Calls.{line_after}
 use Rattle.house.specs.Faults.{kept}
@@ -16,8 +17,7 @@ use Rattle.house.specs.declared.call.Told.TheVariants as told
 
 -- what a call told, said as a value of `Told`
 abbrev pub told_as : {A V : Type 0} → (A → Told V) → Result A Fault → Result (Told V) Fault
-told_as f (Ok a) = Ok (f a)
-told_as f (Err e) = Err e
+told_as f t = result_map_both f (λ e. e) t
 
 module _ {V : Type 0} where
   abbrev pub nothing_more : Unit {0} → Told V
