@@ -1,82 +1,87 @@
 -- What writing a leaf, the leaves and the whole archive comes to.
-use Rattle.std.proofs.Common.{◌≡◌, ℕ, zero, suc, ◌+◌, ◌-◌, ◌<◌, ◌≤◌, true, false, cond, ◌&&◌, List, [], ◌∷◌, ◌++◌, map, length, get_or, drop, Some, None, sum_by, sym, ap, ◌∙◌, arith}
-use Rattle.std.specs.List.{flat_map}
+use Rattle.std.proofs.Common.{◌≡◌, ℕ, zero, suc, ◌+◌, ◌-◌, ◌<◌, ◌≤◌, true, false, cond, ◌&&◌, List, [], ◌∷◌, ◌++◌, map, length, get_or, drop, Some, None, sym, ap, ◌∙◌, arith}
+use Rattle.std.specs.List.{cons_option, flat_map}
 use Rattle.std.proofs.lemmas.List.{at_drop_more, at_drop_all}
 use Rattle.encoding.specs.Bytes.{little_endian}
 use Rattle.encoding.specs.Frames.{counted}
-use Rattle.encoding.specs.Outputs.{Output, put_bytes}
+use Rattle.encoding.specs.Outputs.{put_bytes}
+use Rattle.encoding.specs.declared.cursor.Cursor.{Cursor}
 use Rattle.encoding.proofs.OutputLaws.{put_append}
 use Rattle.ledger.specs.Model.{RowModel, is_answered}
 use Rattle.ledger.specs.View.{row_view}
+use Rattle.ledger.specs.declared.job.Read.{Read}
 use Rattle.ledger.specs.declared.job.Row.{Row}
-use Rattle.history.specs.Layout.{leaf_frame, read_bytes, write_bytes, leaf_bytes, with_first, head_bytes, archive_bytes}
+use Rattle.ledger.specs.declared.job.Write.{Write}
+use Rattle.history.specs.Layout.{Coding, leaf_frame, read_bytes, write_bytes, leaf_bytes, head_bytes, archive_bytes}
 use Rattle.history.specs.Laws.{Lawful}
 use Rattle.history.proofs.Sizes.{length_leaf}
 use Rattle.archive.specs.Leaves.{leaf_writes, row_leaf, row_leaves, lacks_write, lacks_value}
-use Rattle.archive.specs.Sizes.{row_count, row_size}
-use Rattle.archive.proofs.Writes.{none_first, counted_leaf_writes}
-use Rattle.archive.proofs.RowLeaves.{count_leaves, leaf_sized}
+use Rattle.archive.specs.Sizes.{row_size}
+use Rattle.archive.proofs.Writes.{none_first, length_leaf_writes}
+use Rattle.archive.proofs.RowLeaves.{leaf_sized}
 
-module _ {V : Type 0} (bytes : V → List ℕ) (items : List V) where
-  -- a leaf is written as the head of its frame, its job number, its reads and its writes
-  module _ (width : ℕ) (lawful : Lawful bytes width) (j : ℕ) (x : RowModel) (complete : lacks_write (length items) x.writes ≡ false) where
-    pub leaf_put : (size : ℕ) (o o1 o2 o3 o4 : Output) → size ≡ row_size width x →
-        o1 ≡ put_bytes (little_endian 4 (size - 4) ++ little_endian 2 (leaf_frame x.kind)) o →
-        o2 ≡ put_bytes (little_endian 2 j) o1 →
-        o3 ≡ put_bytes (counted read_bytes x.reads) o2 →
-        o4 ≡ put_bytes (counted (λ w. flat_map (write_bytes bytes) (leaf_writes items (w ∷ []))) x.writes) o3 →
-        o4 ≡ put_bytes (leaf_bytes bytes (row_leaf items j x)) o
-    leaf_put size o o1 o2 o3 o4 n a b c d =
-        let rs = counted read_bytes x.reads in
-        let ws = counted (write_bytes bytes) (leaf_writes items x.writes) in
-        let k : size - 4 ≡ 2 + length (little_endian 2 j ++ (rs ++ ws)) =
-        omega (arith, length_leaf bytes 0 width lawful (row_leaf items j x), leaf_sized items width j x complete) in
-        let e : o1 ≡ put_bytes (little_endian 4 (2 + length (little_endian 2 j ++ (rs ++ ws))) ++ little_endian 2 (leaf_frame x.kind)) o =
-        a ∙ ap (λ z. put_bytes (little_endian 4 z ++ little_endian 2 (leaf_frame x.kind)) o) k in
-        let f : o4 ≡ put_bytes ws o3 = d ∙ ap (λ t. put_bytes t o3) (counted_leaf_writes (write_bytes bytes) items x.writes complete) in
-        f ∙ ap (put_bytes ws) c ∙ sym (put_append rs ws o2) ∙ ap (put_bytes (rs ++ ws)) (b ∙ ap (put_bytes (little_endian 2 j)) e)
+module _ {V : Type 0} (C : Coding V) (items : List V) where
+  -- a leaf is written as the head of its frame, its job number, and each of the two lists behind its count
+  module _ (lawful : Lawful C) (j : ℕ) (x : RowModel) (complete : lacks_write (length items) x.writes ≡ false) where
+    pub leaf_put : (size kind m n : ℕ) (job : List ℕ) (reads : List Read) (writes : List Write) (c c1 c2 c3 c4 c5 c6 : Cursor) →
+        size ≡ row_size C.width x → kind ≡ leaf_frame x.kind → job ≡ little_endian 2 j → m ≡ length x.reads → reads ≡ x.reads → n ≡ length x.writes → writes ≡ x.writes →
+        c1 ≡ put_bytes (little_endian 4 (size - 4) ++ little_endian 2 kind) c →
+        c2 ≡ put_bytes job c1 →
+        c3 ≡ put_bytes (m ∷ []) c2 →
+        c4 ≡ put_bytes (flat_map read_bytes reads) c3 →
+        c5 ≡ put_bytes (n ∷ []) c4 →
+        c6 ≡ put_bytes (flat_map (write_bytes C) (leaf_writes items writes)) c5 →
+        c6 ≡ put_bytes (leaf_bytes C (row_leaf items j x)) c
+    leaf_put size kind m n job reads writes c c1 c2 c3 c4 c5 c6 z k b p rs q ws e1 e2 e3 e4 e5 e6 =
+        let body = counted read_bytes x.reads ++ counted (write_bytes C) (leaf_writes items x.writes) in
+        let sized : size - 4 ≡ 2 + length (little_endian 2 j ++ body) = omega (arith, length_leaf C lawful (row_leaf items j x), leaf_sized items C.width j x complete) in
+        let head : c1 ≡ put_bytes (little_endian 4 (2 + length (little_endian 2 j ++ body)) ++ little_endian 2 (leaf_frame x.kind)) c =
+        e1 ∙ (λ i. put_bytes (little_endian 4 (sized i) ++ little_endian 2 (k i)) c) in
+        let first : c4 ≡ put_bytes (counted read_bytes x.reads) c2 = e4 ∙ (λ i. put_bytes (flat_map read_bytes (rs i)) (e3 i)) ∙ ap (λ h. put_bytes (h ∷ flat_map read_bytes x.reads) c2) p in
+        let second : c6 ≡ put_bytes (counted (write_bytes C) (leaf_writes items x.writes)) c4 =
+        e6 ∙ (λ i. put_bytes (flat_map (write_bytes C) (leaf_writes items (ws i))) (e5 i))
+        ∙ ap (λ h. put_bytes (h ∷ flat_map (write_bytes C) (leaf_writes items x.writes)) c4) (q ∙ sym (length_leaf_writes items x.writes complete)) in
+        second ∙ ap (put_bytes (counted (write_bytes C) (leaf_writes items x.writes))) first ∙ sym (put_append (counted read_bytes x.reads) (counted (write_bytes C) (leaf_writes items x.writes)) c2)
+        ∙ ap (put_bytes body) (e2 ∙ (λ i. put_bytes (b i) (head i)))
 
   -- a row whose job is answered, and one whose job is not
-  module _ (j : ℕ) (x : RowModel) (xs : List RowModel) (o : Output) where
-    pub with_leaf : is_answered x.state ≡ true →
-        put_bytes (flat_map (leaf_bytes bytes) (row_leaves items j (x ∷ xs))) o ≡ put_bytes (flat_map (leaf_bytes bytes) (row_leaves items (suc j) xs)) (put_bytes (leaf_bytes bytes (row_leaf items j x)) o)
+  module _ (j : ℕ) (x : RowModel) (xs : List RowModel) (c : Cursor) where
+    with_leaf : is_answered x.state ≡ true →
+        put_bytes (flat_map (leaf_bytes C) (row_leaves items j (x ∷ xs))) c ≡ put_bytes (flat_map (leaf_bytes C) (row_leaves items (suc j) xs)) (put_bytes (leaf_bytes C (row_leaf items j x)) c)
     with_leaf e =
-        ap (λ b. put_bytes (flat_map (leaf_bytes bytes) (with_first (cond b (Some (row_leaf items j x)) None) (row_leaves items (suc j) xs))) o) e
-        ∙ put_append (leaf_bytes bytes (row_leaf items j x)) (flat_map (leaf_bytes bytes) (row_leaves items (suc j) xs)) o
+        ap (λ b. put_bytes (flat_map (leaf_bytes C) (cons_option (cond b (Some (row_leaf items j x)) None) (row_leaves items (suc j) xs))) c) e
+        ∙ put_append (leaf_bytes C (row_leaf items j x)) (flat_map (leaf_bytes C) (row_leaves items (suc j) xs)) c
 
-    pub with_none : is_answered x.state ≡ false → put_bytes (flat_map (leaf_bytes bytes) (row_leaves items j (x ∷ xs))) o ≡ put_bytes (flat_map (leaf_bytes bytes) (row_leaves items (suc j) xs)) o
-    with_none e = ap (λ b. put_bytes (flat_map (leaf_bytes bytes) (with_first (cond b (Some (row_leaf items j x)) None) (row_leaves items (suc j) xs))) o) e
+    with_none : is_answered x.state ≡ false → put_bytes (flat_map (leaf_bytes C) (row_leaves items j (x ∷ xs))) c ≡ put_bytes (flat_map (leaf_bytes C) (row_leaves items (suc j) xs)) c
+    with_none e = ap (λ b. put_bytes (flat_map (leaf_bytes C) (cons_option (cond b (Some (row_leaf items j x)) None) (row_leaves items (suc j) xs))) c) e
 
-  -- what the rows from i on make of the buffer
-  abbrev pub rest_put : List Row → ℕ → Output → Output
-  rest_put rows i o = put_bytes (flat_map (leaf_bytes bytes) (row_leaves items i (map row_view (drop i rows)))) o
+  -- what the rows from i on make of the cursor
+  abbrev pub rest_put : List Row → ℕ → Cursor → Cursor
+  rest_put rows i c = put_bytes (flat_map (leaf_bytes C) (row_leaves items i (map row_view (drop i rows)))) c
 
-  module _ (rows : List Row) (i : ℕ) (d : Row) (o : Output) (h : i < length rows) where
-    next : rest_put rows i o ≡ put_bytes (flat_map (leaf_bytes bytes) (row_leaves items i (row_view (get_or rows i d) ∷ map row_view (drop (i + 1) rows)))) o
-    next = at_drop_more (λ ys. put_bytes (flat_map (leaf_bytes bytes) (row_leaves items i (map row_view ys))) o) rows i d h
+  module _ (rows : List Row) (i : ℕ) (d : Row) (c : Cursor) (h : i < length rows) where
+    next : rest_put rows i c ≡ put_bytes (flat_map (leaf_bytes C) (row_leaves items i (row_view (get_or rows i d) ∷ map row_view (drop (i + 1) rows)))) c
+    next = at_drop_more (λ ys. put_bytes (flat_map (leaf_bytes C) (row_leaves items i (map row_view ys))) c) rows i d h
 
-    counts : (o' : Output) → put_bytes (flat_map (leaf_bytes bytes) (row_leaves items (suc i) (map row_view (drop (i + 1) rows)))) o' ≡ rest_put rows (i + 1) o'
-    counts o' = ap (λ n. put_bytes (flat_map (leaf_bytes bytes) (row_leaves items n (map row_view (drop (i + 1) rows)))) o') (omega arith)
+    counts : (e : Cursor) → put_bytes (flat_map (leaf_bytes C) (row_leaves items (suc i) (map row_view (drop (i + 1) rows)))) e ≡ rest_put rows (i + 1) e
+    counts e = ap (λ n. put_bytes (flat_map (leaf_bytes C) (row_leaves items n (map row_view (drop (i + 1) rows)))) e) (omega arith)
 
-    pub turn_with_leaf : (o' : Output) → is_answered (row_view (get_or rows i d)).state ≡ true → o' ≡ put_bytes (leaf_bytes bytes (row_leaf items i (row_view (get_or rows i d)))) o → rest_put rows (i + 1) o' ≡ rest_put rows i o
-    turn_with_leaf o' e p = ap (rest_put rows (i + 1)) p ∙ sym (next ∙ with_leaf i (row_view (get_or rows i d)) (map row_view (drop (i + 1) rows)) o e ∙ counts _)
+    pub turn_with_leaf : (e : Cursor) → is_answered (row_view (get_or rows i d)).state ≡ true → e ≡ put_bytes (leaf_bytes C (row_leaf items i (row_view (get_or rows i d)))) c → rest_put rows (i + 1) e ≡ rest_put rows i c
+    turn_with_leaf e a p = ap (rest_put rows (i + 1)) p ∙ sym (next ∙ with_leaf i (row_view (get_or rows i d)) (map row_view (drop (i + 1) rows)) c a ∙ counts _)
 
-    pub turn_without : is_answered (row_view (get_or rows i d)).state ≡ false → rest_put rows (i + 1) o ≡ rest_put rows i o
-    turn_without e = sym (next ∙ with_none i (row_view (get_or rows i d)) (map row_view (drop (i + 1) rows)) o e ∙ counts _)
+    pub turn_without : is_answered (row_view (get_or rows i d)).state ≡ false → rest_put rows (i + 1) c ≡ rest_put rows i c
+    turn_without a = sym (next ∙ with_none i (row_view (get_or rows i d)) (map row_view (drop (i + 1) rows)) c a ∙ counts _)
 
-  pub rows_end : (rows : List Row) (i : ℕ) (o : Output) → length rows ≤ i → rest_put rows i o ≡ o
-  rows_end rows i o h = at_drop_all (λ ys. put_bytes (flat_map (leaf_bytes bytes) (row_leaves items i (map row_view ys))) o) rows i h
+  pub rows_end : (rows : List Row) (i : ℕ) (c : Cursor) → length rows ≤ i → rest_put rows i c ≡ c
+  rows_end rows i c h = at_drop_all (λ ys. put_bytes (flat_map (leaf_bytes C) (row_leaves items i (map row_view ys))) c) rows i h
 
   -- the head and then the leaves are the archive
-  pub archive_put : (kind width n : ℕ) (xs : List RowModel) (o o1 o2 : Output) → n ≡ sum_by row_count xs →
-      o1 ≡ put_bytes (head_bytes bytes kind width n) o →
-      o2 ≡ put_bytes (flat_map (leaf_bytes bytes) (row_leaves items 0 xs)) o1 →
-      o2 ≡ put_bytes (archive_bytes bytes kind width (row_leaves items 0 xs)) o
+  pub archive_put : (n : ℕ) (xs : List RowModel) (c : Cursor) → n ≡ length (row_leaves items 0 xs) →
+      put_bytes (flat_map (leaf_bytes C) (row_leaves items 0 xs)) (put_bytes (head_bytes C n) c) ≡ put_bytes (archive_bytes C (row_leaves items 0 xs)) c
   unfolding archive_bytes
-  archive_put kind width n xs o o1 o2 e a b =
+  archive_put n xs c e =
       let ls = row_leaves items 0 xs in
-      b ∙ ap (put_bytes (flat_map (leaf_bytes bytes) ls)) (a ∙ ap (λ k. put_bytes (head_bytes bytes kind width k) o) (e ∙ sym (count_leaves items 0 xs)))
-      ∙ sym (put_append (head_bytes bytes kind width (length ls)) (flat_map (leaf_bytes bytes) ls) o)
+      ap (λ k. put_bytes (flat_map (leaf_bytes C) ls) (put_bytes (head_bytes C k) c)) e ∙ sym (put_append (head_bytes C (length ls)) (flat_map (leaf_bytes C) ls) c)
 
 -- no row of an answered job lacks a value
 pub complete_at : (n : ℕ) (rows : List Row) (i : ℕ) (d : Row) → i < length rows → lacks_value n (map row_view rows) ≡ false → is_answered (row_view (get_or rows i d)).state ≡ true → lacks_write n (row_view (get_or rows i d)).writes ≡ false

@@ -1,21 +1,18 @@
 -- The leaves of the answered jobs, by their rows in the ledger and the values on the shelf; the archive's writer and the rules of the house cite it. Assumes nothing.
 use Rattle.std.specs.Prelude.{ℕ, suc, Bool, cond, ◌&&◌, List, [], ◌∷◌, Some, None, Option, nat_le}
-use Rattle.std.specs.List.{slice_get}
-use Rattle.std.specs.List.{list_any}
+use Rattle.std.specs.List.{cons_option, filter_map, list_any, slice_get}
+use Rattle.std.specs.Option.{option_map}
 use Rattle.ledger.specs.Model.{RowModel, is_answered}
 use Rattle.ledger.specs.declared.job.Write.{Write}
 use Rattle.history.specs.Histories.{LeafWrite, Leaf}
-use Rattle.history.specs.Layout.{with_first}
 
 module _ {V : Type 0} where
   abbrev pub leaf_write : Write → Option V → Option (LeafWrite V)
-  leaf_write w None = None
-  leaf_write w (Some v) = Some (record { «record» = w.«record»; version = w.version; value = v })
+  leaf_write w o = option_map (λ v. record { «record» = w.«record»; version = w.version; value = v }) o
 
   -- the writes of a row with their values; one whose place the shelf lacks is left out, and then no archive is written
   abbrev pub leaf_writes : List V → List Write → List (LeafWrite V)
-  leaf_writes items [] = []
-  leaf_writes items (w ∷ ws) = with_first (leaf_write w (slice_get items w.place)) (leaf_writes items ws)
+  leaf_writes items ws = filter_map (λ w. leaf_write w (slice_get items w.place)) ws
 
   -- the leaf of job j, whose row is x
   abbrev pub row_leaf : List V → ℕ → RowModel → Leaf V
@@ -27,7 +24,7 @@ module _ {V : Type 0} where
   -- the leaves of these rows, of which the first is that of job j, in rising job number
   abbrev pub row_leaves : List V → ℕ → List RowModel → List (Leaf V)
   row_leaves items j [] = []
-  row_leaves items j (x ∷ xs) = with_first (leaf_if_answered items j x) (row_leaves items (suc j) xs)
+  row_leaves items j (x ∷ xs) = cons_option (leaf_if_answered items j x) (row_leaves items (suc j) xs)
 
 -- a shelf of so many values lacks one of these writes
 abbrev pub lacks_write : ℕ → List Write → Bool

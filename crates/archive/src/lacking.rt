@@ -1,10 +1,10 @@
 // Whether the shelf lacks a value that a leaf would have.
-ghost use Rattle.std.specs.Prelude.{◌≡◌, ◌&&◌, length, nat_le};
+ghost use Rattle.std.specs.Prelude.{◌≡◌, ◌&&◌, length};
+ghost use Rattle.std.specs.List.{list_any};
 ghost use Rattle.archive.specs.Leaves.{lacks_write, lacks_value};
 ghost use Rattle.ledger.specs.Model.{is_answered};
 ghost use Rattle.ledger.specs.View.{view, row_view};
 
-use bounded::{Predicate, any};
 use ledger::job::{Row, State, Write};
 use ledger::ledger::Ledger;
 use shelves::shelf::Shelf;
@@ -13,38 +13,33 @@ use shelves::shelf::Shelf;
 pub(crate) fn has_leaf(row: &Row) -> bool
     ensures { result ≡ is_answered (row_view row.now).state }
 {
-    match row.state {
-        State::Answered => true,
-        _ => false,
-    }
+    matches!(row.state, State::Answered)
 }
 
-// Whether a shelf of so many values lacks a write.
-#[derive(Clone, Copy)]
-pub struct Lacks {
-    count: u64,
+// Whether a shelf of so many values lacks one of these writes.
+fn lacks_write(count: u64, writes: &[Write]) -> bool
+    ensures { result ≡ lacks_write count writes.now }
+{
+    writes.iter().any(|write| count <= write.place)
 }
 
-impl Predicate<Write> for Lacks {
-    ghost passes = { λ p w. nat_le p.count w.place };
-
-    fn test(&self, write: &Write) -> bool {
-        self.count <= write.place
-    }
+// Whether it lacks one of the leaf of this row.
+fn row_lacks(count: u64, row: &Row) -> bool
+    ensures { result ≡ (is_answered (row_view row.now).state && lacks_write count (row_view row.now).writes) }
+{
+    has_leaf(row) && lacks_write(count, row.writes.as_slice())
 }
 
-impl Predicate<Row> for Lacks {
-    ghost passes = { λ p x. is_answered (row_view x).state && lacks_write p.count (row_view x).writes };
-
-    fn test(&self, row: &Row) -> bool {
-        has_leaf(row) && any(row.writes.as_slice(), self)
-    }
+// Whether it lacks one of the leaves of these rows.
+fn rows_lack(count: u64, rows: &[Row]) -> bool
+    ensures { result ≡ list_any (λ x. is_answered (row_view x).state && lacks_write count (row_view x).writes) rows.now }
+{
+    rows.iter().any(|row| row_lacks(count, row))
 }
 
 // Whether the shelf lacks a value of an answered job.
 pub fn lacks_value<S: Shelf>(ledger: &Ledger, shelf: &S) -> bool
     ensures { result ≡ lacks_value (length (S.items shelf.now)) (view ledger.now).rows }
 {
-    let count = shelf.len();
-    any(&ledger.rows[..], &Lacks { count })
+    rows_lack(shelf.len(), &ledger.rows[..])
 }

@@ -2,6 +2,7 @@
 // This crate is internal to the house above it, which tests that nothing is lacking and that there is room before it has the bytes written.
 #![tactic(auto)]
 
+pub mod archive;
 pub mod lacking;
 pub mod leaf;
 pub mod size;

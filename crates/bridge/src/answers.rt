@@ -12,7 +12,7 @@
 use house::call::Told;
 use house::fault::Fault;
 use house::reading::Reading;
-use ledger::job::State;
+use ledger::job::{Collected, State};
 use values::value::Value;
 
 // How many bytes an answer has.
@@ -70,11 +70,9 @@ pub fn unknown() -> [u8; ANSWER] {
 pub fn told<V: Value>(told: Told<V>) -> [u8; ANSWER] {
     match told {
         Told::Done => plain(0, 0, 0, 0),
-        Told::Blank => plain(0, 1, 0, 0),
-        Told::Own(value) => with_value(2, 0, value),
-        Told::Version { number, value } => with_value(3, number, value),
-        Told::Answered => plain(0, 4, 0, 0),
-        Told::Dropped(mark) => plain(0, 5, mark.number(), 0),
+        Told::Read(reading) => read(reading),
+        Told::Collected(Collected::Answered) => plain(0, 4, 0, 0),
+        Told::Collected(Collected::Dropped(mark)) => plain(0, 5, mark.number(), 0),
         Told::Archived { size } => plain(0, 6, 0, size),
     }
 }

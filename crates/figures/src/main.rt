@@ -5,8 +5,9 @@
 use house::call::{Call, Told};
 use house::fault::Fault;
 use house::house::House;
+use house::reading::Reading;
 use law::perform::perform;
-use ledger::job::JobKind;
+use ledger::job::{Collected, JobKind};
 use shelves::byte_shelf::ByteShelf;
 use shelves::cell_shelf::CellShelf;
 use shelves::shelf::Shelf;
@@ -22,11 +23,11 @@ const OFFICES: u64 = 2;
 fn show_told<V: Value>(rt: &HostRuntime, told: Result<Told<V>, Fault>) -> io::Result<()> {
     match told {
         Ok(Told::Done) => print!(rt; " ok"),
-        Ok(Told::Blank) => print!(rt; " blank"),
-        Ok(Told::Own(_)) => print!(rt; " own"),
-        Ok(Told::Version { number, value: _ }) => print!(rt; " version {number}"),
-        Ok(Told::Answered) => print!(rt; " answered"),
-        Ok(Told::Dropped(mark)) => print!(rt; " dropped {}", mark.number()),
+        Ok(Told::Read(Reading::Blank)) => print!(rt; " blank"),
+        Ok(Told::Read(Reading::Own(_))) => print!(rt; " own"),
+        Ok(Told::Read(Reading::Version { number, value: _ })) => print!(rt; " version {number}"),
+        Ok(Told::Collected(Collected::Answered)) => print!(rt; " answered"),
+        Ok(Told::Collected(Collected::Dropped(mark))) => print!(rt; " dropped {}", mark.number()),
         Ok(Told::Archived { size }) => print!(rt; " size {size}"),
         Err(Fault::ShortBuffer { needed }) => print!(rt; " refused 14, needs {needed}"),
         Err(fault) => print!(rt; " refused {}", fault.number()),

@@ -1,10 +1,11 @@
 -- Counting the leaves of a history by their job numbers: so two histories in different orders are compared job by job.
 use Rattle.std.proofs.Common.{◌≡◌, ℕ, zero, suc, ◌+◌, ◌<◌, ◌≤◌, cond, ◌⊎◌, List, [], ◌∷◌, length, Some, None, Option, sym, refl, ap, ◌∙◌, subst, inl, inr, arith}
+use Rattle.std.specs.List.{cons_option}
 use Rattle.std.proofs.lemmas.Bool.{cases_eq}
 use Rattle.std.proofs.lemmas.Bool.Decides.{nat_tests}
 use Rattle.ledger.specs.Limits.{last_job}
 use Rattle.history.specs.Histories.{Leaf, wrote, writer_count, leaf_of, Serial}
-use Rattle.history.specs.Layout.{with_first, rising, leaves}
+use Rattle.history.specs.Layout.{rising, leaves}
 use Rattle.history.specs.Laws.{AllArchived}
 
 -- f 0 + .. + f (n - 1)
@@ -71,15 +72,15 @@ module _ {V : Type 0} where
         | inr p ↦ (let m = s.0.small in absurd (omega arith))
       ]
 
-  length_with_first : (p : Option (Leaf V)) (xs : List (Leaf V)) → length (with_first p xs) ≡ there p + length xs
-  length_with_first None xs = omega arith
-  length_with_first (Some x) xs = omega arith
+  length-cons_option : (p : Option (Leaf V)) (xs : List (Leaf V)) → length (cons_option p xs) ≡ there p + length xs
+  length-cons_option None xs = omega arith
+  length-cons_option (Some x) xs = omega arith
 
   length_rising : (k n : ℕ) (h : List (Leaf V)) → length (rising k n h) ≡ below n (λ i. there (leaf_of h (k + i)))
   unfolding below
   length_rising k zero h = refl
   length_rising k (suc n) h =
-      let a = length_with_first (leaf_of h k) (rising (suc k) n h) in
+      let a = length-cons_option (leaf_of h k) (rising (suc k) n h) in
       let b = length_rising (suc k) n h in
       let c = below_front n (λ i. there (leaf_of h (k + i))) in
       let d : there (leaf_of h (k + 0)) ≡ there (leaf_of h k) = ap (λ i. there (leaf_of h i)) (omega arith) in

@@ -1,16 +1,14 @@
 -- Of two conflicting leaves the versions tell which came first: turned round, one of them would have counted the other among the writers before it.
 use Rattle.std.proofs.Common.{◌≡◌, ℕ, suc, ◌+◌, ◌≤◌, Bool, true, false, cond, ◌||◌, eqb, List, [], ◌∷◌, Some, None, Option, inl, inr, arith}
-use Rattle.std.specs.List.{AllByRecursion}
+use Rattle.std.specs.List.{AllByRecursion, list_any}
 use Rattle.std.proofs.lemmas.Bool.{or_cases, eqb-true}
-use Rattle.std.specs.List.{list_any}
 use Rattle.history.specs.Histories.{Leaf, wrote, used, Conflict, writer_count, leaf_of, earlier, is_before, Fits, Serial}
 use Rattle.history.proofs.Positions.{fits_at, serial_earlier, not_before_itself, one_first, count_earlier, leaf_before}
-use Rattle.history.proofs.Searches.{any_cases}
 
 -- two functions that give the version of each element agree at each record of the list
 same_at : {Q : Type 0} (number version : Q → ℕ) (f g : ℕ → ℕ) (r : ℕ) (qs : List Q) → list_any (λ q. eqb (number q) r) qs ≡ true → AllByRecursion (λ q. version q ≡ f (number q)) qs → AllByRecursion (λ q. version q ≡ g (number q)) qs → f r ≡ g r
 same_at number version f g r [] t a b = grind arith
-same_at number version f g r (q ∷ qs) t a b = elim (any_cases (λ q. eqb (number q) r) q qs t) [
+same_at number version f g r (q ∷ qs) t a b = elim (or_cases (eqb (number q) r) (list_any (λ q. eqb (number q) r) qs) t) [
   | inl e ↦ (let s = eqb-true (number q) r e in let k = a.0 in let m = b.0 in cc)
   | inr e ↦ same_at number version f g r qs e a.1 b.1
 ]

@@ -1,23 +1,23 @@
 -- Outlines and the order of conflicting jobs give back the leaves: who wrote a record before a job is decided job by job, and only conflicts matter.
 use Rattle.std.proofs.Common.{◌≡◌, ℕ, suc, ◌+◌, Bool, true, false, cond, eqb, List, [], ◌∷◌, map, is_some, Some, None, Option, sym, refl, ap, ◌∙◌, subst, arith}
-use Rattle.std.specs.List.{AllByRecursion}
+use Rattle.std.specs.List.{AllByRecursion, list_any}
 use Rattle.std.proofs.ByRecursion.{All-weaker}
 use Rattle.std.proofs.lemmas.Bool.{or_left, or_right, eq-eqb}
-use Rattle.std.specs.List.{list_any}
 use Rattle.ledger.specs.Limits.{last_job}
 use Rattle.ledger.specs.declared.job.Read.{Read}
 use Rattle.history.specs.Histories.{LeafWrite, Leaf, Outline, outline, wrote, used, writer_count, leaf_of, earlier, is_before, Fits, Serial}
-use Rattle.history.specs.Laws.{outline_if_any, SameOutlines, SameOrder}
+use Rattle.std.specs.Option.{option_map}
+use Rattle.history.specs.Laws.{SameOutlines, SameOrder}
 use Rattle.history.proofs.Positions.{fits_at, serial_earlier, leaf_earlier}
-use Rattle.history.proofs.Searches.{any_first, any_rest, any_map}
+use Rattle.history.proofs.Searches.{list_any-map}
 use Rattle.history.proofs.Counts.{below_same, wrote_if_any, writers_by_job}
 
 -- each element's record is one of the list's
 all_listed : {Q : Type 0} (number : Q → ℕ) (qs : List Q) → AllByRecursion (λ q. list_any (λ p. eqb (number p) (number q)) qs ≡ true) qs
 all_listed number [] = tt
 all_listed number (p ∷ qs) = (
-  any_first (λ o. eqb (number o) (number p)) p qs (eq-eqb (number p) (number p) refl),
-  All-weaker (λ q. list_any (λ o. eqb (number o) (number q)) qs ≡ true) (λ q. list_any (λ o. eqb (number o) (number q)) (p ∷ qs) ≡ true) (λ q e. any_rest (λ o. eqb (number o) (number q)) p qs e) qs (all_listed number qs),
+  or_left _ (list_any (λ o. eqb (number o) (number p)) qs) (eq-eqb (number p) (number p) refl),
+  All-weaker (λ q. list_any (λ o. eqb (number o) (number q)) qs ≡ true) (λ q. list_any (λ o. eqb (number o) (number q)) (p ∷ qs) ≡ true) (λ q e. or_right (eqb (number p) (number q)) _ e) qs (all_listed number qs),
 )
 
 reads_same : (f g : ℕ → ℕ) (ps qs : List Read) → map (λ (q : Read). q.«record») ps ≡ map (λ (q : Read). q.«record») qs → AllByRecursion (λ q. f q.«record» ≡ g q.«record») ps → AllByRecursion (λ q. q.version ≡ f q.«record») ps → AllByRecursion (λ q. q.version ≡ g q.«record») qs → ps ≡ qs
@@ -59,9 +59,9 @@ module _ {V : Type 0} where
   wrote_by_outline r None = 0
   wrote_by_outline r (Some o) = cond (list_any (λ (w : ℕ × V). eqb w.0 r) o.written) 1 0
 
-  wrote_outlined : (r : ℕ) (p : Option (Leaf V)) → wrote_if_any r p ≡ wrote_by_outline r (outline_if_any p)
+  wrote_outlined : (r : ℕ) (p : Option (Leaf V)) → wrote_if_any r p ≡ wrote_by_outline r (option_map outline p)
   wrote_outlined r None = refl
-  wrote_outlined r (Some x) = ap (λ b. cond b 1 0) (sym (any_map (λ (w : ℕ × V). eqb w.0 r) (λ (w : LeafWrite V). (w.«record», w.value)) x.writes))
+  wrote_outlined r (Some x) = ap (λ b. cond b 1 0) (sym (list_any-map (λ (w : ℕ × V). eqb w.0 r) (λ (w : LeafWrite V). (w.«record», w.value)) x.writes))
 
   wrote_earlier : (r i j : ℕ) (h : List (Leaf V)) → Serial h → wrote_if_any r (leaf_of (earlier h j) i) ≡ cond (is_before h i j) (wrote_if_any r (leaf_of h i)) 0
   wrote_earlier r i j h s = go (leaf_of (earlier h j) i) refl
@@ -96,10 +96,10 @@ module _ {V : Type 0} where
       where
         go : (p q : Option (Leaf V)) → leaf_of g j ≡ p → leaf_of h j ≡ q → leaf_of g j ≡ leaf_of h j
         go None None e f = cc
-        go None (Some y) e f = let k : ◌≡◌ {A = Option (Outline V)} None (Some (outline y)) = ap outline_if_any (sym e) ∙ same j ∙ ap outline_if_any f in grind arith
-        go (Some x) None e f = let k : ◌≡◌ {A = Option (Outline V)} (Some (outline x)) None = ap outline_if_any (sym e) ∙ same j ∙ ap outline_if_any f in grind arith
+        go None (Some y) e f = let k : ◌≡◌ {A = Option (Outline V)} None (Some (outline y)) = ap (option_map outline) (sym e) ∙ same j ∙ ap (option_map outline) f in grind arith
+        go (Some x) None e f = let k : ◌≡◌ {A = Option (Outline V)} (Some (outline x)) None = ap (option_map outline) (sym e) ∙ same j ∙ ap (option_map outline) f in grind arith
         go (Some x) (Some y) e f =
-            let k : ◌≡◌ {A = Option (Outline V)} (Some (outline x)) (Some (outline y)) = ap outline_if_any (sym e) ∙ same j ∙ ap outline_if_any f in
+            let k : ◌≡◌ {A = Option (Outline V)} (Some (outline x)) (Some (outline y)) = ap (option_map outline) (sym e) ∙ same j ∙ ap (option_map outline) f in
             let alike : outline x ≡ outline y = cc in
             let counts : (r : ℕ) → used x r ≡ true → writer_count (earlier g j) r ≡ writer_count (earlier h j) r =
             (λ r t. writers_by_job r (earlier g j) (serial_earlier g j sg) ∙ below_same (last_job + 1) _ _ (λ i. each_earlier r i j x e t) ∙ sym (writers_by_job r (earlier h j) (serial_earlier h j sh))) in

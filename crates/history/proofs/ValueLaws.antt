@@ -1,7 +1,8 @@
 -- A kind of value whose bytes come back as the value has different bytes for different values.
-use Rattle.std.proofs.Common.{◌≡◌, ℕ, List, length, Some, Option, ap}
+use Rattle.std.proofs.Common.{◌≡◌, length, Some, ap}
+use Rattle.values.specs.declared.value.Value.{Ghosts as Kind}
+use Rattle.history.specs.Layout.{coding}
 use Rattle.history.specs.Laws.{Lawful}
 
-pub lawful : {V : Type 0} (bytes : V → List ℕ) (parsed : List ℕ → Option V) (width : ℕ) → ((v : V) → length (bytes v) ≡ width) → ((v : V) → parsed (bytes v) ≡ Some v) → Lawful bytes width
-lawful bytes parsed width wide back =
-    record { wide = wide; apart = λ v w e. (let k = back v in let l = back w in let m = ap parsed e in cc) }
+pub lawful : {V C : Type 0} (k : Kind V C) → ((v : V) → length (k.bytes v) ≡ k.width) → ((v : V) → k.parsed (k.bytes v) ≡ Some v) → Lawful (coding k)
+lawful k wide back = record { wide = wide; apart = λ v w e. (let a = back v in let b = back w in let m = ap k.parsed e in cc) }

@@ -2,10 +2,11 @@
 use Rattle.std.specs.Prelude.{◌≡◌, ℕ, List, [], ◌∷◌}
 use Rattle.ledger.specs.declared.job.JobKind.TheVariants.{Amendment, Inspection}
 use Rattle.history.specs.Histories.{Leaf, Serial}
-use Rattle.history.specs.Layout.{archive}
+use Rattle.history.specs.Layout.{Coding, archive}
 
-abbrev own_bytes : List ℕ → List ℕ
-own_bytes v = v
+-- values that are their own bytes
+abbrev pub own_bytes : Coding (List ℕ)
+own_bytes = record { bytes = λ v. v; kind = 1; width = 10 }
 
 -- job 1 wrote 412.00 US dollars to record 0
 abbrev pub writer : Leaf (List ℕ)
@@ -27,14 +28,14 @@ bystander = record { job = 3; kind = Inspection; reads = record { «record» = 5
 
 -- both outcomes of the theorem occur: the order of two jobs that share no record does not show, that of two that conflict does
 pub record Examples : Type 0 where
-  pub empty : archive own_bytes 1 10 [] ≡ 8 ∷ 0 ∷ 0 ∷ 0 ∷ 1 ∷ 0 ∷ 0 ∷ 0 ∷ 1 ∷ 0 ∷ 10 ∷ 0 ∷ []
+  pub empty : archive own_bytes [] ≡ 8 ∷ 0 ∷ 0 ∷ 0 ∷ 1 ∷ 0 ∷ 0 ∷ 0 ∷ 1 ∷ 0 ∷ 10 ∷ 0 ∷ []
   pub day :
-      archive own_bytes 1 10 (writer ∷ reader 0 ∷ []) ≡
+      archive own_bytes (writer ∷ reader 0 ∷ []) ≡
       8 ∷ 0 ∷ 0 ∷ 0 ∷ 1 ∷ 0 ∷ 2 ∷ 0 ∷ 1 ∷ 0 ∷ 10 ∷ 0 ∷
       0x12 ∷ 0 ∷ 0 ∷ 0 ∷ 2 ∷ 0 ∷ 1 ∷ 0 ∷ 0 ∷ 1 ∷ 0 ∷ 1 ∷ 0x48 ∷ 0x03 ∷ 0xF0 ∷ 0xA0 ∷ 0 ∷ 0 ∷ 0 ∷ 0 ∷ 0 ∷ 0 ∷
       8 ∷ 0 ∷ 0 ∷ 0 ∷ 3 ∷ 0 ∷ 2 ∷ 0 ∷ 1 ∷ 0 ∷ 0 ∷ 0 ∷ []
   pub read_first : Serial (writer ∷ reader 0 ∷ [])
   pub written_first : Serial (reader 1 ∷ writer ∷ [])
-  pub differ : archive own_bytes 1 10 (writer ∷ reader 0 ∷ []) ≡ archive own_bytes 1 10 (reader 1 ∷ writer ∷ []) → ⊥
+  pub differ : archive own_bytes (writer ∷ reader 0 ∷ []) ≡ archive own_bytes (reader 1 ∷ writer ∷ []) → ⊥
   pub either_way : Serial (bystander ∷ writer ∷ []) × Serial (writer ∷ bystander ∷ [])
-  pub alike : archive own_bytes 1 10 (bystander ∷ writer ∷ []) ≡ archive own_bytes 1 10 (writer ∷ bystander ∷ [])
+  pub alike : archive own_bytes (bystander ∷ writer ∷ []) ≡ archive own_bytes (writer ∷ bystander ∷ [])

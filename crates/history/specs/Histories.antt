@@ -1,7 +1,6 @@
 -- Leaves, histories of them, and what makes a history serial; `src/lib.rt` and the archive's layout cite it. Assumes nothing.
-use Rattle.std.specs.Prelude.{◌≡◌, ℕ, suc, ◌+◌, ◌≤◌, Bool, true, cond, ◌||◌, List, [], ◌∷◌, map, is_some, Some, None, Option, ◌==◌, nat_eq}
-use Rattle.std.specs.List.{AllByRecursion}
-use Rattle.std.specs.List.{list_any}
+use Rattle.std.specs.Prelude.{◌≡◌, ℕ, suc, ◌+◌, ◌≤◌, Bool, true, cond, ◌||◌, List, [], ◌∷◌, map, is_some, None, Option, ◌==◌, nat_eq}
+use Rattle.std.specs.List.{AllByRecursion, find, list_any}
 use Rattle.ledger.specs.Limits.{last_job}
 use Rattle.ledger.specs.declared.job.JobKind.{JobKind}
 use Rattle.ledger.specs.declared.job.Read.{Read}
@@ -55,8 +54,7 @@ module _ {V : Type 0} where
 
   -- the leaf of job j
   abbrev pub leaf_of : List (Leaf V) → ℕ → Option (Leaf V)
-  leaf_of [] j = None
-  leaf_of (x ∷ h) j = cond (x.job == j) (Some x) (leaf_of h j)
+  leaf_of h j = find (λ x. x.job == j) h
 
   -- what was answered before job j
   abbrev pub earlier : List (Leaf V) → ℕ → List (Leaf V)

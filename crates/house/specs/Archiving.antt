@@ -4,21 +4,12 @@ use Rattle.std.specs.List.{list_any}
 use Rattle.shelves.specs.declared.fault.ShelfFault.TheVariants.{NoSuchPlace}
 use Rattle.ledger.specs.Model.{row}
 use Rattle.history.specs.Histories.{Leaf}
-use Rattle.history.specs.Layout.{archive}
+use Rattle.history.specs.Layout.{Coding, archive}
 use Rattle.archive.specs.Leaves.{leaf_writes}
 use Rattle.house.specs.Faults.{kept}
 use Rattle.house.specs.Model.{HouseModel}
 use Rattle.house.specs.declared.fault.Fault.{Fault}
 use Rattle.house.specs.declared.fault.Fault.TheVariants as fault
-
--- a kind of value: its encoding, its number and its width
-pub record Coding (V : Type 0) : Type 0 where
-  pub bytes : V → List ℕ
-  pub kind : ℕ
-  pub width : ℕ
-
-abbrev pub coding : {V : Type 0} → (V → List ℕ) → ℕ → ℕ → Coding V
-coding bytes kind width = record { bytes = bytes; kind = kind; width = width }
 
 module _ {V : Type 0} where
   -- the leaf of a job, by its row
@@ -36,7 +27,7 @@ module _ {V : Type 0} where
 
 module _ {V : Type 0} (C : Coding V) where
   abbrev pub house_archive : HouseModel V → List ℕ
-  house_archive m = archive C.bytes C.kind C.width (house_leaves m)
+  house_archive m = archive C (house_leaves m)
 
   -- into a buffer of n bytes: the size, or the size that it needs
   abbrev pub archive_told : HouseModel V → ℕ → Result ℕ Fault

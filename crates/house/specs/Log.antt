@@ -10,6 +10,8 @@ use Rattle.house.specs.declared.call.Call.{Call}
 use Rattle.house.specs.declared.call.Call.TheVariants.{Open, Read, Write, HandIn, Deliver, Collect, Close, Withdraw, Archive}
 use Rattle.house.specs.declared.call.Told.{Told}
 use Rattle.house.specs.declared.call.Told.TheVariants as told
+use Rattle.house.specs.declared.reading.Reading.TheVariants as reading
+use Rattle.ledger.specs.declared.job.Collected.TheVariants as collected
 
 abbrev pub contains : List ℕ → ℕ → Bool
 contains xs x = list_any (λ y. nat_eq y x) xs
@@ -35,20 +37,17 @@ module _ {V : Type 0} where
 
   abbrev pub unless_own : Told V → Occurrence V → Occurrence V
   unless_own told.Done x = x
-  unless_own told.Blank x = x
-  unless_own (told.Own v) x = nothing
-  unless_own (told.Version n v) x = x
-  unless_own told.Answered x = x
-  unless_own (told.Dropped mark) x = x
+  unless_own (told.Read reading.Blank) x = x
+  unless_own (told.Read (reading.Own v)) x = nothing
+  unless_own (told.Read (reading.Version n v)) x = x
+  unless_own (told.Collected c) x = x
   unless_own (told.Archived size) x = x
 
   abbrev pub if_answered : Told V → Occurrence V → Occurrence V
   if_answered told.Done x = nothing
-  if_answered told.Blank x = nothing
-  if_answered (told.Own v) x = nothing
-  if_answered (told.Version n v) x = nothing
-  if_answered told.Answered x = x
-  if_answered (told.Dropped mark) x = nothing
+  if_answered (told.Read y) x = nothing
+  if_answered (told.Collected collected.Answered) x = x
+  if_answered (told.Collected (collected.Dropped mark)) x = nothing
   if_answered (told.Archived size) x = nothing
 
   abbrev pub if_told : (Told V → Occurrence V → Occurrence V) → Result (Told V) Fault → Occurrence V → Occurrence V

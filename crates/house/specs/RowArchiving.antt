@@ -3,9 +3,8 @@
 use Rattle.std.specs.Prelude.{ℕ, Bool, cond, List, length, Ok, Err, Result, nat_lt}
 use Rattle.encoding.specs.Outputs.{in_front}
 use Rattle.shelves.specs.declared.fault.ShelfFault.TheVariants.{NoSuchPlace}
-use Rattle.history.specs.Layout.{archive_bytes}
+use Rattle.history.specs.Layout.{Coding, archive_bytes}
 use Rattle.archive.specs.Leaves.{row_leaves, lacks_value}
-use Rattle.house.specs.Archiving.{Coding}
 use Rattle.house.specs.Faults.{kept}
 use Rattle.house.specs.Model.{HouseModel}
 use Rattle.house.specs.declared.fault.Fault.{Fault}
@@ -18,7 +17,7 @@ rows_lack m = lacks_value (length m.items) m.ledger.rows
 module _ {V : Type 0} (C : Coding V) where
   -- the leaves of the answered rows, in rising job number, as bytes
   abbrev pub rows_archive : HouseModel V → List ℕ
-  rows_archive m = archive_bytes C.bytes C.kind C.width (row_leaves m.items 0 m.ledger.rows)
+  rows_archive m = archive_bytes C (row_leaves m.items 0 m.ledger.rows)
 
   -- into a buffer of so many bytes: the size, or the size that it needs
   abbrev pub rows_told : HouseModel V → ℕ → Result ℕ Fault

@@ -1,49 +1,37 @@
 -- A step of the house for each call, and runs: any list of calls to a newly built house, with what they told. Assumes nothing.
-use Rattle.std.specs.Prelude.{ℕ, List, [], ◌∷◌, Ok, Err, Result}
+use Rattle.std.specs.Prelude.{ℕ, List, [], ◌∷◌, Result}
+use Rattle.std.specs.Result.{result_map_both}
 use Rattle.ledger.specs.Model.{LedgerModel}
 use Rattle.protocol.specs.Calls.{line_after}
 use Rattle.house.specs.Faults.{kept}
 use Rattle.house.specs.Model.{HouseModel, built}
 use Rattle.house.specs.Calls.{open_told, open_after, withdraw_told, withdraw_after, read_told, read_after, write_told, write_after}
 use Rattle.house.specs.Committing.{hand_in_told, hand_in_after, deliver_told, deliver_after, collect_told, collect_after, close_told, close_after}
-use Rattle.house.specs.Archiving.{Coding, archive_told}
+use Rattle.history.specs.Layout.{Coding}
+use Rattle.house.specs.Archiving.{archive_told}
 use Rattle.house.specs.declared.fault.Fault.{Fault}
-use Rattle.house.specs.declared.reading.Reading.{Reading}
-use Rattle.house.specs.declared.reading.Reading.TheVariants as reading
 use Rattle.house.specs.declared.call.Call.{Call}
 use Rattle.house.specs.declared.call.Call.TheVariants.{Open, Read, Write, HandIn, Deliver, Collect, Close, Withdraw, Archive}
 use Rattle.house.specs.declared.call.Told.{Told}
 use Rattle.house.specs.declared.call.Told.TheVariants as told
-use Rattle.ledger.specs.declared.job.Collected.{Collected}
-use Rattle.ledger.specs.declared.job.Collected.TheVariants as collected
 
 -- what a call told, said as a value of `Told`
 abbrev pub told_as : {A V : Type 0} → (A → Told V) → Result A Fault → Result (Told V) Fault
-told_as f (Ok a) = Ok (f a)
-told_as f (Err e) = Err e
+told_as f t = result_map_both f (λ e. e) t
 
 module _ {V : Type 0} where
   abbrev pub nothing_more : Unit {0} → Told V
   nothing_more x = told.Done
 
-  abbrev pub reading_told : Reading V → Told V
-  reading_told reading.Blank = told.Blank
-  reading_told (reading.Own v) = told.Own v
-  reading_told (reading.Version n v) = told.Version n v
-
-  abbrev pub collected_told : Collected → Told V
-  collected_told collected.Answered = told.Answered
-  collected_told (collected.Dropped mark) = told.Dropped mark
-
 -- what a call told, and how the house then stands
 module _ {V : Type 0} (C : Coding V) where
   abbrev pub call_told : HouseModel V → Call V → Result (Told V) Fault
   call_told m (Open j k) = told_as nothing_more (open_told m j)
-  call_told m (Read j r) = told_as reading_told (read_told m j r)
+  call_told m (Read j r) = told_as told.Read (read_told m j r)
   call_told m (Write j r v) = told_as nothing_more (write_told m j r)
   call_told m (HandIn j) = told_as nothing_more (hand_in_told m j)
   call_told m (Deliver j o) = told_as nothing_more (deliver_told m j o)
-  call_told m (Collect j) = told_as collected_told (collect_told m j)
+  call_told m (Collect j) = told_as told.Collected (collect_told m j)
   call_told m (Close j) = told_as nothing_more (close_told m j)
   call_told m (Withdraw j) = told_as nothing_more (withdraw_told m j)
   call_told m (Archive n) = told_as told.Archived (archive_told C m n)

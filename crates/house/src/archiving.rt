@@ -1,14 +1,13 @@
 // The archive: what the answered jobs read and wrote, as bytes.
 ghost use Rattle.std.specs.Prelude.{◌≡◌, length};
-ghost use Rattle.house.specs.Archiving.{coding};
+ghost use Rattle.history.specs.Layout.{coding};
 ghost use Rattle.house.specs.Model.{model};
 ghost use Rattle.house.specs.RowArchiving.{rows_told, rows_buffer};
 
 use crate::fault::Fault;
 use crate::house::House;
+use archive::archive::Archive;
 use archive::lacking::lacks_value;
-use archive::size::archive_size;
-use archive::write::write_archive;
 use shelves::fault::ShelfFault;
 use shelves::shelf::Shelf;
 
@@ -16,19 +15,23 @@ impl<S: Shelf> House<S> {
     // Writes the archive to the front of a buffer and tells its size; the bytes behind it stay.
     // A buffer that is too short is refused (14, with the size that it needs), and then not a byte is written.
     pub fn archive(&self, buffer: &mut [u8]) -> Result<u64, Fault>
-        ensures told { result ≡ rows_told (coding S.Value.Value.bytes S.Value.Value.kind S.Value.Value.width) (model S.items S.room self.now) (length buffer.old) }
-        ensures buffer { buffer.new ≡ rows_buffer (coding S.Value.Value.bytes S.Value.Value.kind S.Value.Value.width) (model S.items S.room self.now) buffer.old }
+        ensures told { result ≡ rows_told (coding S.Value.Value) (model S.items S.room self.now) (length buffer.old) }
+        ensures buffer { buffer.new ≡ rows_buffer (coding S.Value.Value) (model S.items S.room self.now) buffer.old }
     {
         if lacks_value(&self.ledger, &self.shelf) {
             return Err(Fault::Shelf(ShelfFault::NoSuchPlace));
         }
-        let size = archive_size(&self.ledger, &self.shelf);
+        let archive = Archive {
+            ledger: &self.ledger,
+            shelf: &self.shelf,
+        };
+        let size = archive.size();
         if size > buffer.len() {
             return Err(Fault::ShortBuffer {
                 needed: size as u64,
             });
         }
-        write_archive(&self.ledger, &self.shelf, buffer);
+        archive.write(buffer);
         Ok(size as u64)
     }
 }

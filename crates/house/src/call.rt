@@ -1,5 +1,6 @@
 // The calls of the house as values, and what they tell: the runs that the law speaks of are lists of these.
-use ledger::job::{JobKind, Mark};
+use crate::reading::Reading;
+use ledger::job::{Collected, JobKind};
 
 // One call of the house, with all that it is given.
 #[derive(Clone, Copy)]
@@ -21,16 +22,10 @@ pub enum Call<V> {
 pub enum Told<V> {
     // there is nothing to tell
     Done,
-    // a read: version 0
-    Blank,
-    // a read: the value that the job itself has written
-    Own(V),
-    // a read: an installed version and its value
-    Version { number: u8, value: V },
-    // a collect: the job is answered
-    Answered,
-    // a collect: the job was dropped
-    Dropped(Mark),
-    // an archive of so many bytes
+    // of a read
+    Read(Reading<V>),
+    // of a collect
+    Collected(Collected),
+    // of an archive: it has so many bytes
     Archived { size: u64 },
 }

@@ -10,13 +10,14 @@ use Rattle.protocol.proofs.Theorems.{accepted_in_line, line_accepted, first_of_l
 use Rattle.house.specs.Faults.{after_checks}
 use Rattle.house.specs.Model.{HouseModel}
 use Rattle.ledger.specs.Answering.{collected}
-use Rattle.house.specs.Archiving.{Coding}
-use Rattle.house.specs.Runs.{told_as, collected_told, call_told, Event, Progress}
+use Rattle.history.specs.Layout.{Coding}
+use Rattle.house.specs.Runs.{told_as, call_told, Event, Progress}
 use Rattle.house.specs.Log.{contains}
 use Rattle.law.proofs.Tying.{Tied, matched}
 use Rattle.law.proofs.SerialLeaves.{among_contained, contained}
 use Rattle.house.specs.declared.call.Call.TheVariants as call
 use Rattle.house.specs.declared.call.Told.TheVariants as told
+use Rattle.ledger.specs.declared.job.Collected.TheVariants.{Answered}
 
 is_accepted_state : (s : State) → is_accepted s ≡ true → s ≡ Accepted
 is_accepted_state s e = grind arith
@@ -44,11 +45,11 @@ module _ {V : Type 0} (p : Progress V) (T : Tied p) where
       go false x true y = sym x ∙ contained p.line j (accepted_in_line (matched p T) j (is_accepted_state (row l j).state y))
 
   pub first_answered : (C : Coding V) → Calm l → (j : ℕ) → (row l j).state ≡ Accepted →
-      (t : ℕ) × (ts : List ℕ) × (p.line ≡ t ∷ ts) × (is_held l t ≡ false) × (call_told C m (call.Collect t) ≡ Ok told.Answered)
+      (t : ℕ) × (ts : List ℕ) × (p.line ≡ t ∷ ts) × (is_held l t ≡ false) × (call_told C m (call.Collect t) ≡ Ok (told.Collected Answered))
   first_answered C calm j a = go p.line refl (accepted_in_line (matched p T) j a)
     where
-      go : (q : List ℕ) → p.line ≡ q → Among j q → (t : ℕ) × (ts : List ℕ) × (p.line ≡ t ∷ ts) × (is_held l t ≡ false) × (call_told C m (call.Collect t) ≡ Ok told.Answered)
+      go : (q : List ℕ) → p.line ≡ q → Among j q → (t : ℕ) × (ts : List ℕ) × (p.line ≡ t ∷ ts) × (is_held l t ≡ false) × (call_told C m (call.Collect t) ≡ Ok (told.Collected Answered))
       go [] e i = absurd i
       go (t ∷ ts) e i =
           let f = first_of_line (matched p T) calm t ts e in
-          (t, ts, e, f.1, ap (λ o. told_as collected_told (after_checks o (Ok (collected (row l t).state)))) f.2 ∙ ap (λ s. Ok (collected_told (collected s))) f.0)
+          (t, ts, e, f.1, ap (λ o. told_as told.Collected (after_checks o (Ok (collected (row l t).state)))) f.2 ∙ ap (λ s. Ok (told.Collected (collected s))) f.0)

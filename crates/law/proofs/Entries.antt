@@ -1,7 +1,7 @@
 -- Lists of entries (a record with a version or a place), and the values that the shelf has at the places.
 -- each place is below n
 use Rattle.std.proofs.Common.{◌≡◌, ℕ, zero, suc, pred, ◌<◌, ◌≤◌, Bool, true, false, cond, not, ◌&&◌, eqb, leb, List, [], ◌∷◌, ◌++◌, map, length, Some, None, Option, sym, refl, ap, ◌∙◌, arith}
-use Rattle.std.specs.List.{slice_get, AllByRecursion}
+use Rattle.std.specs.List.{cons_option, slice_get, AllByRecursion}
 use Rattle.std.proofs.lemmas.Bool.Decides.{nat_tests}
 use Rattle.std.proofs.ByRecursion.{All-weaker}
 use Rattle.std.specs.List.{list_any}
@@ -10,7 +10,6 @@ use Rattle.ledger.specs.Reading.{newest, is_new_read}
 use Rattle.ledger.specs.declared.job.Read.{Read}
 use Rattle.ledger.specs.declared.job.Write.{Write}
 use Rattle.history.specs.Histories.{LeafWrite}
-use Rattle.history.specs.Layout.{with_first}
 use Rattle.protocol.specs.Calls.{LedgerCall, call_open, call_read, call_write, call_hand_in, call_collect, call_close, call_withdraw, call_deliver}
 use Rattle.protocol.proofs.Lookups.{unseen_push}
 use Rattle.protocol.proofs.RowSteps.{entries, with_entry, Core, core, core_after}
@@ -206,7 +205,7 @@ module _ {V : Type 0} where
   -- each record with the value at its place
   abbrev pub valued : List V → List Read → List (ℕ × V)
   valued vs [] = []
-  valued vs (x ∷ xs) = with_first (paired x.«record» (slice_get vs x.version)) (valued vs xs)
+  valued vs (x ∷ xs) = cons_option (paired x.«record» (slice_get vs x.version)) (valued vs xs)
 
   pub valued_push : (vs : List V) (v : V) (xs : List Read) → Within (length vs) xs → valued (vs ++ v ∷ []) xs ≡ valued vs xs
   valued_push vs v [] a = refl
@@ -220,7 +219,7 @@ module _ {V : Type 0} where
       s = nth_some vs x.version a.0
 
       go : (b : Bool) → eqb x.«record» r ≡ b → valued (vs ++ v ∷ []) (with_entry xs r (length vs)) ≡ with_value (valued vs xs) r v →
-          valued (vs ++ v ∷ []) (cond b (record { «record» = r; version = length vs } ∷ xs) (x ∷ with_entry xs r (length vs))) ≡ with_value (with_first (paired x.«record» (slice_get vs x.version)) (valued vs xs)) r v
+          valued (vs ++ v ∷ []) (cond b (record { «record» = r; version = length vs } ∷ xs) (x ∷ with_entry xs r (length vs))) ≡ with_value (cons_option (paired x.«record» (slice_get vs x.version)) (valued vs xs)) r v
       go true e i = rw (nth_new vs v, valued_push vs v xs a.1, s.1, e) refl
       go false e i = rw (nth_old vs v x.version a.0, s.1, i, e) refl
 
@@ -232,7 +231,7 @@ module _ {V : Type 0} where
       s = nth_some vs x.version a.0
 
       go : (b : Bool) → eqb x.«record» r ≡ b → value_of (valued vs xs) r ≡ cond (eqb (first_unseen xs r) 0) None (slice_get vs (pred (first_unseen xs r))) →
-          value_of (with_first (paired x.«record» (slice_get vs x.version)) (valued vs xs)) r ≡ cond (eqb (cond b (suc x.version) (first_unseen xs r)) 0) None (slice_get vs (pred (cond b (suc x.version) (first_unseen xs r))))
+          value_of (cons_option (paired x.«record» (slice_get vs x.version)) (valued vs xs)) r ≡ cond (eqb (cond b (suc x.version) (first_unseen xs r)) 0) None (slice_get vs (pred (cond b (suc x.version) (first_unseen xs r))))
       go true e i = rw (s.1, e) (sym (ap (λ t. cond {A = Option V} t None (Some s.0)) (eqb_suc x.version)))
       go false e i = rw (s.1, e) i
 
@@ -244,7 +243,7 @@ module _ {V : Type 0} where
       s = nth_some vs x.version a.0
 
       go : (b : Bool) → eqb x.«record» r ≡ b → list_any (λ (x : ℕ × V). eqb x.0 r) (valued vs xs) ≡ not (eqb (first_unseen xs r) 0) →
-          list_any (λ (x : ℕ × V). eqb x.0 r) (with_first (paired x.«record» (slice_get vs x.version)) (valued vs xs)) ≡ not (eqb (cond b (suc x.version) (first_unseen xs r)) 0)
+          list_any (λ (x : ℕ × V). eqb x.0 r) (cons_option (paired x.«record» (slice_get vs x.version)) (valued vs xs)) ≡ not (eqb (cond b (suc x.version) (first_unseen xs r)) 0)
       go true e i = rw (s.1, e) (sym (ap not (eqb_suc x.version)))
       go false e i = rw (s.1, e) i
 
@@ -255,7 +254,7 @@ module _ {V : Type 0} where
   pairs_of_leaf vs (w ∷ ws) = go (slice_get vs w.place) (pairs_of_leaf vs ws)
     where
       go : (o : Option V) → map {B = ℕ × V} (λ (w : LeafWrite V). (w.«record», w.value)) (leaf_writes vs ws) ≡ valued vs (entries ws) →
-          map {B = ℕ × V} (λ (w : LeafWrite V). (w.«record», w.value)) (with_first (leaf_write w o) (leaf_writes vs ws)) ≡ with_first (paired w.«record» o) (valued vs (entries ws))
+          map {B = ℕ × V} (λ (w : LeafWrite V). (w.«record», w.value)) (cons_option (leaf_write w o) (leaf_writes vs ws)) ≡ cons_option (paired w.«record» o) (valued vs (entries ws))
       go None i = i
       go (Some v) i = ap (λ l. (w.«record», v) ∷ l) i
 
@@ -264,7 +263,7 @@ module _ {V : Type 0} where
   all_leaf_writes P vs [] a = tt
   all_leaf_writes P vs (w ∷ ws) a = go (slice_get vs w.place) (all_leaf_writes P vs ws a.1)
     where
-      go : (o : Option V) → AllByRecursion (λ (w : LeafWrite V). P w.«record» w.version) (leaf_writes vs ws) → AllByRecursion (λ (w : LeafWrite V). P w.«record» w.version) (with_first (leaf_write w o) (leaf_writes vs ws))
+      go : (o : Option V) → AllByRecursion (λ (w : LeafWrite V). P w.«record» w.version) (leaf_writes vs ws) → AllByRecursion (λ (w : LeafWrite V). P w.«record» w.version) (cons_option (leaf_write w o) (leaf_writes vs ws))
       go None i = i
       go (Some v) i = (a.0, i)
 
@@ -275,7 +274,7 @@ module _ {V : Type 0} where
   leaf_writes_by_record g vs (w ∷ ws) a = go (slice_get vs w.place) (leaf_writes_by_record g vs ws a.1)
     where
       go : (o : Option V) → leaf_writes vs ws ≡ map {B = LeafWrite V} (λ (x : ℕ × V). record { «record» = x.0; version = g x.0; value = x.1 }) (valued vs (entries ws)) →
-          with_first (leaf_write w o) (leaf_writes vs ws) ≡ map {B = LeafWrite V} (λ (x : ℕ × V). record { «record» = x.0; version = g x.0; value = x.1 }) (with_first (paired w.«record» o) (valued vs (entries ws)))
+          cons_option (leaf_write w o) (leaf_writes vs ws) ≡ map {B = LeafWrite V} (λ (x : ℕ × V). record { «record» = x.0; version = g x.0; value = x.1 }) (cons_option (paired w.«record» o) (valued vs (entries ws)))
       go None i = i
       go (Some v) i = λ k. record { «record» = w.«record»; version = a.0 k; value = v } ∷ i k
 

@@ -13,13 +13,14 @@ use Rattle.shelves.specs.declared.fault.ShelfFault.TheVariants.{NoSuchPlace}
 use Rattle.house.specs.Model.{HouseModel}
 use Rattle.house.specs.Calls.{version_reading}
 use Rattle.house.specs.Archiving.{job_leaf}
-use Rattle.house.specs.Runs.{told_as, reading_told, Event, Progress}
+use Rattle.house.specs.Runs.{told_as, Event, Progress}
 use Rattle.house.specs.Log.{before, read, occurrence, answered_in, is_answered_in, last_writer_in}
 use Rattle.law.specs.Law.{version_from, told_from, Explained}
 use Rattle.law.proofs.Tying.{version_told, ToldAsListed, Tied, matched}
 use Rattle.law.proofs.SerialLeaves.{among_contained, series, leaf_found}
 use Rattle.law.proofs.LogLeaves.{among_before, series_before, follows_before, Last, none_or_last, version_is}
 use Rattle.house.specs.declared.call.Told.TheVariants as told
+use Rattle.house.specs.declared.reading.Reading.TheVariants as reading
 
 -- a listed version stands in the list
 has_read : (xs : List Read) (r n : ℕ) → first_unseen xs r ≡ suc n → Has {X = Read} xs (record { «record» = r; version = n })
@@ -45,7 +46,7 @@ module _ {V : Type 0} (p : Progress V) (T : Tied p) where
   log = p.log
 
   -- what an installed version tells
-  told_at : (U r i : ℕ) (v : V) → installed_version (row l U).writes r ≡ suc i → slice_get vs (written_place (row l U).writes r) ≡ Some v → version_told l vs r (suc i) ≡ Ok (told.Version (suc i) v)
+  told_at : (U r i : ℕ) (v : V) → installed_version (row l U).writes r ≡ suc i → slice_get vs (written_place (row l U).writes r) ≡ Some v → version_told l vs r (suc i) ≡ Ok (told.Read (reading.Version (suc i) v))
   told_at U r i v e f =
       let M = matched p T in
       let q : M.machine.version U r ≡ suc i = (M.rows.each U).version_is r ∙ e in
@@ -53,8 +54,8 @@ module _ {V : Type 0} (p : Progress V) (T : Tied p) where
       let k : M.machine.writer r (suc i) ≡ U = ap (M.machine.writer r) (sym q) ∙ (invariants_of M).version_writer U r (omega arith) in
       let j : (get_or (versions l r) i no_version).job ≡ U = sym (M.writer_is r i b) ∙ k in
       let c : i < length (versions l r) = omega (arith, M.count_is r) in
-      ap (λ x. told_as reading_told (version_reading (suc i) (ok_or (slice_get vs x) NoSuchPlace))) (T.placed r i c ∙ ap (λ x. written_place (row l x).writes r) j)
-      ∙ ap (λ o. told_as reading_told (version_reading (suc i) (ok_or o NoSuchPlace))) f
+      ap (λ x. told_as told.Read (version_reading (suc i) (ok_or (slice_get vs x) NoSuchPlace))) (T.placed r i c ∙ ap (λ x. written_place (row l x).writes r) j)
+      ∙ ap (λ o. told_as told.Read (version_reading (suc i) (ok_or o NoSuchPlace))) f
 
   pub explained : (e : Event V) → Has log e → (j r : ℕ) → occurrence e ≡ read j r → is_answered_in log j ≡ true → Explained m log j r e.told
   explained e h j r x a = go (none_or_last p T js r (series_before l (answered_in log) j (series p T)))
@@ -92,5 +93,5 @@ module _ {V : Type 0} (p : Progress V) (T : Tied p) where
           let q = version_is p T U r k o.writes in
           let c = writers l (before (answered_in log) U) r in
           by (Some (U, o.value)) o.is
-          (t ∙ ap (version_told l vs r) (o.number ∙ w) ∙ told_at U r c o.value w o.at ∙ ap (λ z. Ok (told.Version z o.value)) (sym (q ∙ w)))
+          (t ∙ ap (version_told l vs r) (o.number ∙ w) ∙ told_at U r c o.value w o.at ∙ ap (λ z. Ok (told.Read (reading.Version z o.value))) (sym (q ∙ w)))
           (o.number ∙ sym q)

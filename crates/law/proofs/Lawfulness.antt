@@ -1,10 +1,10 @@
 -- The law of the house, from its parts.
 use Rattle.std.proofs.Common.{◌++◌, length, drop, ap}
-use Rattle.history.specs.Layout.{archive}
+use Rattle.history.specs.Layout.{Coding, archive}
 use Rattle.history.specs.Laws.{Lawful}
 use Rattle.history.proofs.ValueLaws.{lawful}
 use Rattle.house.specs.Faults.{kept}
-use Rattle.house.specs.Archiving.{Coding, house_archive}
+use Rattle.house.specs.Archiving.{house_archive}
 use Rattle.house.specs.Runs.{told_as}
 use Rattle.law.specs.Law.{TheLaw, NeverLacking, LedgerReached}
 use Rattle.law.proofs.Tying.{office_small}
@@ -16,7 +16,7 @@ use Rattle.law.proofs.Collecting.{line_contains, first_answered}
 use Rattle.law.proofs.Shelving.{archived, lacks_no_place}
 use Rattle.house.specs.declared.call.Told.TheVariants as told
 
-pub the_law : {V : Type 0} (C : Coding V) → Lawful C.bytes C.width → TheLaw C
+pub the_law : {V : Type 0} (C : Coding V) → Lawful C → TheLaw C
 the_law C lawful =
     record {
       archives = archives_logs C lawful;
@@ -25,7 +25,7 @@ the_law C lawful =
             ap (λ o. (told_as told.Archived o, p.house)) t,
             ap (λ o. kept o buffer (house_archive C p.house ++ drop (length (house_archive C p.house)) buffer)) t,
           );
-      archived_log = λ p r. ap (archive C.bytes C.kind C.width) (leaves_of_log p (tied C p r));
+      archived_log = λ p r. ap (archive C) (leaves_of_log p (tied C p r));
       reads = λ p r. explained p (tied C p r);
       line = λ p r. line_contains p (tied C p r);
       first = λ p r. first_answered p (tied C p r) C;

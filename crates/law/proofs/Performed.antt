@@ -1,6 +1,6 @@
 -- A call that runs continues every run that leads to the house where it starts; and there its archive by the rows is that of the answered jobs.
 use Rattle.std.proofs.Common.{◌≡◌, ℕ, List, length, Result, sym, refl, ap, ◌∙◌}
-use Rattle.house.specs.Archiving.{Coding}
+use Rattle.history.specs.Layout.{Coding}
 use Rattle.house.specs.Model.{HouseModel}
 use Rattle.house.specs.Runs.{told_as, call_told, call_after, Progress, proceeds}
 use Rattle.house.specs.declared.fault.Fault.{Fault}
@@ -8,7 +8,7 @@ use Rattle.house.specs.declared.call.Call.{Call}
 use Rattle.house.specs.declared.call.Told.{Told}
 use Rattle.house.specs.declared.call.Call.TheVariants as call
 use Rattle.house.specs.declared.call.Told.TheVariants as told
-use Rattle.law.specs.Performing.{fitted, performed_told, performed_buffer, call_buffer, Continues, RowsArchived}
+use Rattle.law.specs.Performing.{if_archive, fitted, performed_told, performed_buffer, call_buffer, Continues, RowsArchived}
 use Rattle.law.proofs.RowsArchived.{rows_archived, rows_complete, told_same, buffer_same}
 use Rattle.law.proofs.Tying.{Tied}
 use Rattle.law.proofs.TyingCalls.{tied}
@@ -39,15 +39,7 @@ module _ {V : Type 0} (C : Coding V) where
     told_by_rules (call.Archive n) room = ap (told_as told.Archived) (told_same p T C room)
 
     written_by_rules : (c : Call V) (buffer : List ℕ) → performed_buffer C p.house c buffer ≡ call_buffer C p.house c buffer
-    written_by_rules (call.Open j k) buffer = refl
-    written_by_rules (call.Read j r) buffer = refl
-    written_by_rules (call.Write j r v) buffer = refl
-    written_by_rules (call.HandIn j) buffer = refl
-    written_by_rules (call.Deliver j o) buffer = refl
-    written_by_rules (call.Collect j) buffer = refl
-    written_by_rules (call.Close j) buffer = refl
-    written_by_rules (call.Withdraw j) buffer = refl
-    written_by_rules (call.Archive n) buffer = buffer_same p T C buffer
+    written_by_rules c buffer = ap (λ left. if_archive c left buffer) (buffer_same p T C buffer)
 
   pub continued : (before after : HouseModel V) (c : Call V) (buffer left : List ℕ) (t : Result (Told V) Fault) → t ≡ performed_told C before c (length buffer) → after ≡ call_after C before c → left ≡ performed_buffer C before c buffer →
       Continues C before c buffer t left after

@@ -1,17 +1,18 @@
 -- In a house that calls have led to, the archive by the rows is that of the answered jobs, and no value of it is lacking.
 use Rattle.std.proofs.Common.{◌≡◌, ℕ, suc, ◌+◌, ◌<◌, Bool, true, false, cond, ◌&&◌, ltb, List, [], ◌∷◌, ◌++◌, length, get_or, drop, Some, None, Ok, Err, Result, sym, refl, ap, ◌∙◌, subst, arith}
+use Rattle.std.specs.List.{cons_option}
 use Rattle.ledger.specs.Model.{RowModel, LedgerModel, no_row, row, is_answered}
 use Rattle.ledger.specs.declared.job.State.{State}
 use Rattle.ledger.specs.declared.job.State.TheVariants.{Answered}
 use Rattle.history.specs.Histories.{Leaf, leaf_of}
-use Rattle.history.specs.Layout.{with_first, rising, leaves, archive_bytes}
+use Rattle.history.specs.Layout.{Coding, rising, leaves, archive_bytes}
 use Rattle.shelves.specs.declared.fault.ShelfFault.TheVariants.{NoSuchPlace}
 use Rattle.archive.specs.Leaves.{leaf_if_answered, row_leaves, lacks_write, lacks_value}
 use Rattle.protocol.proofs.JobLists.{all_at}
 use Rattle.protocol.proofs.Answering.{answered_rows, answered_listed}
 use Rattle.house.specs.Faults.{kept}
 use Rattle.house.specs.Model.{HouseModel}
-use Rattle.house.specs.Archiving.{Coding, job_leaf, house_leaves, lacks_value as lacks_listed, house_archive, archive_told, buffer_after}
+use Rattle.house.specs.Archiving.{job_leaf, house_leaves, lacks_value as lacks_listed, house_archive, archive_told, buffer_after}
 use Rattle.house.specs.RowArchiving.{rows_lack, rows_archive, rows_told, rows_buffer}
 use Rattle.house.specs.Runs.{Progress}
 use Rattle.house.specs.Log.{contains}
@@ -41,7 +42,7 @@ module _ {V : Type 0} where
   rows_rise items h k (x ∷ xs) e =
       let first : leaf_of h k ≡ leaf_if_answered items k x = subst (λ n. leaf_of h n ≡ leaf_if_answered items n x) (omega arith) (e 0 (omega arith)) in
       let rest = rows_rise items h (suc k) xs (λ i l. subst (λ n. leaf_of h n ≡ leaf_if_answered items n (get_or xs i no_row)) (omega arith) (e (suc i) (omega arith))) in
-      λ i. with_first (first i) (rest i)
+      λ i. cons_option (first i) (rest i)
 
   module _ (p : Progress V) (T : Tied p) where
     abbrev m : HouseModel V
@@ -70,7 +71,7 @@ module _ {V : Type 0} where
         ∙ rows_rise vs (house_leaves m) 0 l.rows (λ i b. leaf_of_jobs m l.answered (0 + i) ∙ ap (λ t. cond t (Some (job_leaf m (0 + i))) None) (row_answered (0 + i)) ∙ ap (λ n. leaf_if_answered vs (0 + i) (row l n)) (omega arith))
 
     pub rows_archived : (C : Coding V) → house_archive C m ≡ rows_archive C m
-    rows_archived C = ap (archive_bytes C.bytes C.kind C.width) leaves_rise
+    rows_archived C = ap (archive_bytes C) leaves_rise
 
     pub rows_complete : rows_lack m ≡ false
     rows_complete = go l.rows (λ j. none_missing vs (row l j).writes (T.within j))

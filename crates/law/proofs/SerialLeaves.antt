@@ -1,17 +1,17 @@
 -- The leaves of the answered jobs: they are serial, and their outlines and order are those of the log.
 use Rattle.std.proofs.Common.{◌≡◌, ℕ, suc, ◌+◌, ◌<◌, Bool, true, false, cond, ◌||◌, eqb, ◌≢◌, ◌↔◌, List, [], ◌∷◌, map, is_some, Some, None, Option, sym, refl, ap, ◌∙◌, subst, inl, inr, arith}
-use Rattle.std.specs.List.{AllByRecursion}
+use Rattle.std.specs.List.{AllByRecursion, list_any}
 use Rattle.std.proofs.ByRecursion.{All-weaker}
-use Rattle.std.proofs.lemmas.Bool.{eqb-true, eq-eqb, ne_eqb}
-use Rattle.std.specs.List.{list_any}
+use Rattle.std.proofs.lemmas.Bool.{or_cases, or_left, or_right, eqb-true, eq-eqb, ne_eqb}
 use Rattle.ledger.specs.Limits.{last_job}
 use Rattle.ledger.specs.Model.{LedgerModel, row, has_written}
 use Rattle.ledger.specs.declared.job.State.TheVariants.{Answered}
 use Rattle.ledger.specs.declared.job.Read.{Read}
 use Rattle.ledger.specs.declared.job.Write.{Write}
 use Rattle.history.specs.Histories.{LeafWrite, Leaf, outline, writer_count, leaf_of, earlier, is_before, Serial}
-use Rattle.history.specs.Laws.{Lawful, outline_if_any, SameOutlines, SameOrder}
-use Rattle.history.proofs.Searches.{any_cases, any_first, any_rest, any_map}
+use Rattle.std.specs.Option.{option_map}
+use Rattle.history.specs.Laws.{Lawful, SameOutlines, SameOrder}
+use Rattle.history.proofs.Searches.{list_any-map}
 use Rattle.history.proofs.Agreement.{archives_agree}
 use Rattle.history.proofs.ValueLaws.{lawful}
 use Rattle.protocol.specs.Laws.{writers, InSeries}
@@ -21,7 +21,8 @@ use Rattle.protocol.proofs.Theorems.{answered_in_series}
 use Rattle.protocol.proofs.RowSteps.{entries}
 use Rattle.protocol.proofs.VersionSteps.{has_written_entry}
 use Rattle.house.specs.Model.{HouseModel}
-use Rattle.house.specs.Archiving.{Coding, job_leaf, house_leaves, house_archive}
+use Rattle.history.specs.Layout.{Coding}
+use Rattle.house.specs.Archiving.{job_leaf, house_leaves, house_archive}
 use Rattle.house.specs.Runs.{Event, Progress, Run}
 use Rattle.house.specs.Log.{contains, before, reads_in, writes_in, answered_in, is_answered_in, is_earlier_in, wrote_in, used_in, ConflictIn, outline_in}
 use Rattle.law.specs.Law.{entry_in, Agree}
@@ -32,15 +33,15 @@ use Rattle.history.specs.Histories as histories
 
 pub among_contained : (js : List ℕ) (j : ℕ) → contains js j ≡ true → Among j js
 among_contained [] j e = absurd (grind arith)
-among_contained (x ∷ js) j e = elim (any_cases (λ y. eqb y j) x js e) [
+among_contained (x ∷ js) j e = elim (or_cases (eqb x j) (contains js j) e) [
   | inl q ↦ inl (sym (eqb-true x j q))
   | inr q ↦ inr (among_contained js j q)
 ]
 
 pub contained : (js : List ℕ) (j : ℕ) → Among j js → contains js j ≡ true
 contained [] j i = absurd i
-contained (x ∷ js) j (inl e) = any_first (λ y. eqb y j) x js (eq-eqb x j (sym e))
-contained (x ∷ js) j (inr i) = any_rest (λ y. eqb y j) x js (contained js j i)
+contained (x ∷ js) j (inl e) = or_left _ (contains js j) (eq-eqb x j (sym e))
+contained (x ∷ js) j (inr i) = or_right (eqb x j) _ (contained js j i)
 
 not_contained : (js : List ℕ) (j : ℕ) → AllByRecursion (λ x. j ≢ x) js → contains js j ≡ false
 not_contained [] j a = refl
@@ -61,7 +62,7 @@ module _ {V : Type 0} where
     leaf_of_jobs (x ∷ js) j = go (eqb x j) refl (leaf_of_jobs js j)
       where
         go : (b : Bool) → eqb x j ≡ b → leaf_of (map (job_leaf m) js) j ≡ cond (contains js j) (Some (job_leaf m j)) None →
-            cond b (Some (job_leaf m x)) (leaf_of (map (job_leaf m) js) j) ≡ cond (cond b true (contains js j)) (Some (job_leaf m j)) None
+            cond b (Some (job_leaf m x)) (leaf_of (map (job_leaf m) js) j) ≡ cond (b || contains js j) (Some (job_leaf m j)) None
         go true e i = ap (λ z. Some (job_leaf m z)) (eqb-true x j e)
         go false e i = i
 
@@ -111,11 +112,11 @@ module _ {V : Type 0} where
     outline_is j = λ i. record { job = j; kind = T.kinds j i; read = T.reads j i; written = written_is j i }
 
     leaf_wrote : (j r : ℕ) → histories.wrote (job_leaf m j) r ≡ wrote_in log j r
-    leaf_wrote j r = sym (any_map (λ (x : ℕ × V). eqb x.0 r) (λ (w : LeafWrite V). (w.«record», w.value)) (job_leaf m j).writes) ∙ ap (list_any (λ (x : ℕ × V). eqb x.0 r)) (written_is j)
+    leaf_wrote j r = sym (list_any-map (λ (x : ℕ × V). eqb x.0 r) (λ (w : LeafWrite V). (w.«record», w.value)) (job_leaf m j).writes) ∙ ap (list_any (λ (x : ℕ × V). eqb x.0 r)) (written_is j)
 
     leaf_used : (j r : ℕ) → histories.used (job_leaf m j) r ≡ used_in log j r
     leaf_used j r =
-        ap (λ b. b || histories.wrote (job_leaf m j) r) (sym (any_map (λ s. eqb s r) (λ (q : Read). q.«record») (row l j).reads) ∙ ap (λ rs. contains rs r) (T.reads j))
+        ap (λ b. b || histories.wrote (job_leaf m j) r) (sym (list_any-map (λ s. eqb s r) (λ (q : Read). q.«record») (row l j).reads) ∙ ap (λ rs. contains rs r) (T.reads j))
         ∙ ap (λ b. contains (reads_in log j) r || b) (leaf_wrote j r)
 
     pub row_wrote : (j r : ℕ) → wrote_in log j r ≡ has_written (row l j).writes r
@@ -147,12 +148,12 @@ module _ {V : Type 0} where
         serial_jobs l.answered (answered_in_series (matched p T)) (answered_different (matched p T))
         (All-weaker (λ j. (row l j).state ≡ Answered) (λ j. j < last_job + 1) (has_row (matched p T)) l.answered (answered_rows (matched p T)))
 
-    entry_is : (j : ℕ) → outline_if_any (leaf_of (house_leaves m) j) ≡ entry_in log j
+    entry_is : (j : ℕ) → option_map outline (leaf_of (house_leaves m) j) ≡ entry_in log j
     entry_is j =
-        ap outline_if_any (leaf_of_jobs m l.answered j) ∙ go (contains l.answered j) ∙ ap (λ o. cond (contains l.answered j) (Some o) None) (outline_is j)
+        ap (option_map outline) (leaf_of_jobs m l.answered j) ∙ go (contains l.answered j) ∙ ap (λ o. cond (contains l.answered j) (Some o) None) (outline_is j)
         ∙ ap (λ js. cond (contains js j) (Some (outline_in log j)) None) T.answers
       where
-        go : (b : Bool) → outline_if_any (cond b (Some (job_leaf m j)) None) ≡ cond b (Some (outline (job_leaf m j))) None
+        go : (b : Bool) → option_map outline (cond b (Some (job_leaf m j)) None) ≡ cond b (Some (outline (job_leaf m j))) None
         go true = refl
         go false = refl
 
@@ -171,7 +172,7 @@ module _ {V : Type 0} where
     jobs_conflict i j c = (c.0, sym (leaf_used i c.0) ∙ c.1, sym (leaf_used j c.0) ∙ c.2, sym (either_wrote i j c.0) ∙ c.3)
 
   -- so equal archives and agreeing logs are one and the same, by the theorem on serial histories
-  pub archives_logs : (C : Coding V) → Lawful C.bytes C.width → (p q : Progress V) → Run C p → Run C q → (house_archive C p.house ≡ house_archive C q.house) ↔ Agree p.log q.log
+  pub archives_logs : (C : Coding V) → Lawful C → (p q : Progress V) → Run C p → Run C q → (house_archive C p.house ≡ house_archive C q.house) ↔ Agree p.log q.log
   archives_logs C lawful p q r s = (there, back)
     where
       T : Tied p
@@ -181,7 +182,7 @@ module _ {V : Type 0} where
       U = tied C q s
 
       A : (house_archive C p.house ≡ house_archive C q.house) ↔ (SameOutlines (house_leaves p.house) (house_leaves q.house) × SameOrder (house_leaves p.house) (house_leaves q.house))
-      A = archives_agree C.bytes C.kind C.width lawful (house_leaves p.house) (house_leaves q.house) (serial_leaves p T) (serial_leaves q U)
+      A = archives_agree C lawful (house_leaves p.house) (house_leaves q.house) (serial_leaves p T) (serial_leaves q U)
 
       there : house_archive C p.house ≡ house_archive C q.house → Agree p.log q.log
       there e =

@@ -18,8 +18,9 @@ use Rattle.house.specs.Faults.{after_checks}
 use Rattle.house.specs.Model.{HouseModel}
 use Rattle.house.specs.Calls.{shelved}
 use Rattle.ledger.specs.Answering.{collected}
-use Rattle.house.specs.Archiving.{Coding, lacks_value, house_archive, archive_told}
-use Rattle.house.specs.Runs.{told_as, nothing_more, reading_told, collected_told, call_told, Event, Progress}
+use Rattle.history.specs.Layout.{Coding}
+use Rattle.house.specs.Archiving.{lacks_value, house_archive, archive_told}
+use Rattle.house.specs.Runs.{told_as, nothing_more, call_told, Event, Progress}
 use Rattle.law.proofs.Entries.{none_missing}
 use Rattle.law.proofs.Tying.{Tied, read_found}
 use Rattle.house.specs.declared.fault.Fault.TheVariants as fault
@@ -57,7 +58,7 @@ module _ {V : Type 0} (p : Progress V) (T : Tied p) where
 
   pub lacks_no_place : (C : Coding V) (c : Call V) → call_told C m c ≡ Err (fault.Shelf NoSuchPlace) → ⊥
   lacks_no_place C (call.Open j k) e = ledger_or nothing_more (open_fault l j) tt e
-  lacks_no_place C (call.Read j r) e = let o = read_found p T j r in ledger_or reading_told (read_fault l j r) o.0 (sym (ap (λ t. told_as reading_told (after_checks (read_fault l j r) t)) o.1) ∙ e)
+  lacks_no_place C (call.Read j r) e = let o = read_found p T j r in ledger_or told.Read (read_fault l j r) o.0 (sym (ap (λ t. told_as told.Read (after_checks (read_fault l j r) t)) o.1) ∙ e)
   lacks_no_place C (call.Write j r v) e = go (write_fault l j r) (eqb (length vs) m.room) e
     where
       go : (o : Option LedgerFault) (b : Bool) → told_as {V = V} nothing_more (after_checks o (shelved (cond b (Err ShelfFull) (Ok (length vs))))) ≡ Err (fault.Shelf NoSuchPlace) → ⊥
@@ -66,7 +67,7 @@ module _ {V : Type 0} (p : Progress V) (T : Tied p) where
       go None false e = grind arith
   lacks_no_place C (call.HandIn j) e = ledger_or nothing_more (hand_in_fault l j) tt e
   lacks_no_place C (call.Deliver j o) e = ledger_or nothing_more (deliver_fault m.offices l j o) tt e
-  lacks_no_place C (call.Collect j) e = ledger_or collected_told (collect_fault l j) (collected (row l j).state) e
+  lacks_no_place C (call.Collect j) e = ledger_or told.Collected (collect_fault l j) (collected (row l j).state) e
   lacks_no_place C (call.Close j) e = ledger_or nothing_more (close_fault l j) tt e
   lacks_no_place C (call.Withdraw j) e = ledger_or nothing_more (withdraw_fault l j) tt e
   lacks_no_place C (call.Archive n) e = go (lacks_value m) none_lacked (ltb n (length (house_archive C m))) e

@@ -24,12 +24,13 @@ use Rattle.house.specs.Faults.{after_checks}
 use Rattle.house.specs.Model.{HouseModel, with_ledger}
 use Rattle.house.specs.Calls.{own_reading, version_reading, reading_from}
 use Rattle.house.specs.Committing.{office_in}
-use Rattle.house.specs.Runs.{told_as, reading_told, Event, Progress}
+use Rattle.house.specs.Runs.{told_as, Event, Progress}
 use Rattle.house.specs.Log.{Occurrence, read, answered, nothing, occurrence_of, occurrence, kind_by, reads_by, writes_by, answers_by, kind_in, reads_in, writes_in, answered_in}
 use Rattle.law.proofs.Entries.{Within, OnceEach, within_found, records_of, once_reads_after, once_writes_after, listed_stays, nth_some, valued}
 use Rattle.ledger.specs.declared.reading.Source.TheVariants as source
 use Rattle.house.specs.declared.reading.Reading.TheVariants as reading
 use Rattle.house.specs.declared.call.Call.TheVariants as call
+use Rattle.house.specs.declared.call.Told.TheVariants as told
 
 -- what a passed check says
 pub passed : {A : Type 0} (o : Option LedgerFault) (t : Result A Fault) (a : A) → after_checks o t ≡ Ok a → (o ≡ None) × (t ≡ Ok a)
@@ -39,7 +40,7 @@ passed (Some f) t a e = absurd (grind arith)
 module _ {V : Type 0} where
   -- what a read of version n of record r tells
   abbrev pub version_told : LedgerModel → List V → ℕ → ℕ → Result (Told V) Fault
-  version_told l vs r n = told_as reading_told (reading_from vs (version_source l r n))
+  version_told l vs r n = told_as told.Read (reading_from vs (version_source l r n))
 
   -- a read told the version that the job's row lists
   abbrev pub ToldAsListed : LedgerModel → List V → Event V → Type 0
@@ -107,7 +108,7 @@ module _ {V : Type 0} where
         go false b = listed_low j r
 
     -- so no read of it finds that the shelf lacks a place
-    pub version_found : (r n : ℕ) → n ≤ length (versions l r) → (x : Reading V) × (reading_from vs (version_source l r n) ≡ Ok x) × ((j : ℕ) → occurrence_of (call.Read j r) (Ok (reading_told x)) ≡ read j r)
+    pub version_found : (r n : ℕ) → n ≤ length (versions l r) → (x : Reading V) × (reading_from vs (version_source l r n) ≡ Ok x) × ((j : ℕ) → occurrence_of (call.Read j r) (Ok (told.Read x)) ≡ read j r)
     version_found r zero b = (reading.Blank, refl, λ j. refl)
     version_found r (suc i) b =
         let s = nth_some vs (get_or (versions l r) i no_version).place (place_held r i (omega arith)) in
@@ -171,8 +172,8 @@ module _ {V : Type 0} where
       pub told_stays : ((n : ℕ) → n < length vs → slice_get vs' n ≡ slice_get vs n) → (r n : ℕ) → n ≤ length (versions l r) → version_told l' vs' r n ≡ version_told l vs r n
       told_stays old r zero b = refl
       told_stays old r (suc i) b =
-          ap (λ y. told_as reading_told (version_reading (suc i) (ok_or (slice_get vs' y.place) NoSuchPlace))) (version_stands matched m.offices c r i (omega arith))
-          ∙ ap (λ o. told_as reading_told (version_reading (suc i) (ok_or o NoSuchPlace))) (old (get_or (versions l r) i no_version).place (place_held r i (omega arith)))
+          ap (λ y. told_as told.Read (version_reading (suc i) (ok_or (slice_get vs' y.place) NoSuchPlace))) (version_stands matched m.offices c r i (omega arith))
+          ∙ ap (λ o. told_as told.Read (version_reading (suc i) (ok_or o NoSuchPlace))) (old (get_or (versions l r) i no_version).place (place_held r i (omega arith)))
 
       pub advanced : Agreed → Tied (record { house = record { offices = m.offices; ledger = l'; items = vs'; room = m.room }; log = e ∷ p.log; line = line_after l l' (job_of c) p.line })
       advanced D =

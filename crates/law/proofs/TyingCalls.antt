@@ -27,8 +27,9 @@ use Rattle.house.specs.Model.{HouseModel}
 use Rattle.house.specs.Calls.{shelved, open_told, open_after, withdraw_told, withdraw_after, read_told, read_after, write_told, write_after}
 use Rattle.ledger.specs.Answering.{collected}
 use Rattle.house.specs.Committing.{office_in, hand_in_told, hand_in_after, deliver_told, deliver_after, collect_told, collect_after, close_told, close_after}
-use Rattle.house.specs.Archiving.{Coding, archive_told}
-use Rattle.house.specs.Runs.{told_as, nothing_more, reading_told, collected_told, Event, Progress, beginning, proceeded, Run, begins, proceeds}
+use Rattle.history.specs.Layout.{Coding}
+use Rattle.house.specs.Archiving.{archive_told}
+use Rattle.house.specs.Runs.{told_as, nothing_more, Event, Progress, beginning, proceeded, Run, begins, proceeds}
 use Rattle.house.specs.Log.{Occurrence, opened, read, wrote, answered, nothing, occurrence_of, occurrence, with_value}
 use Rattle.law.proofs.Entries.{Within, OnceEach, within_more, within_with_entry, records_of, nth_old, valued, valued_push, valued_with_entry}
 use Rattle.law.proofs.Tying.{passed, Tied, unchanged, advanced, quiet, unseen, answers_one}
@@ -55,7 +56,7 @@ new_row : (P : RowModel → Type 0) (n j : ℕ) → P unused → P no_row → P 
 new_row P n j a b = in_replicate P n j unused no_row a b
 
 module _ {V : Type 0} where
-  collect_occurrence : (j : ℕ) (s : State) → occurrence_of {V = V} (call.Collect j) (Ok (collected_told (collected s))) ≡ cond (is_dropped s) nothing (answered j)
+  collect_occurrence : (j : ℕ) (s : State) → occurrence_of {V = V} (call.Collect j) (Ok (told.Collected (collected s))) ≡ cond (is_dropped s) nothing (answered j)
   collect_occurrence j NeverOpened = refl
   collect_occurrence j Open = refl
   collect_occurrence j Voting = refl
@@ -95,11 +96,11 @@ module _ {V : Type 0} where
         kind_same i false = refl
 
     collect_tied : (j : ℕ) → collect_fault l j ≡ None →
-        Tied (record { house = collect_after m j; log = record { call = call.Collect j; told = Ok (collected_told (collected (row l j).state)) } ∷ p.log; line = line_after l (collect_done l j) j p.line })
+        Tied (record { house = collect_after m j; log = record { call = call.Collect j; told = Ok (told.Collected (collected (row l j).state)) } ∷ p.log; line = line_after l (collect_done l j) j p.line })
     collect_tied j f = go (row l j).state refl
       where
         e : Event V
-        e = record { call = call.Collect j; told = Ok (collected_told (collected (row l j).state)) }
+        e = record { call = call.Collect j; told = Ok (told.Collected (collected (row l j).state)) }
 
         is : (s : State) → (row l j).state ≡ s → occurrence e ≡ cond (is_dropped s) nothing (answered j)
         is s q = collect_occurrence j (row l j).state ∙ ap (λ s. cond (is_dropped s) nothing (answered j)) q
@@ -161,7 +162,7 @@ module _ {V : Type 0} where
 
     tied_step : (C : Coding V) (c : Call V) → Tied (proceeded C p c)
     tied_step C (call.Open j k) = judged (call.Open j k) j nothing_more (open_told m j) (open_after m j k) (λ f. refl) (λ a e. open_tied j k (passed (open_fault l j) (Ok tt) a e).0)
-    tied_step C (call.Read j r) = judged (call.Read j r) j reading_told (read_told m j r) (read_after m j r) (λ f. refl) (λ a e. read_tied p T j r a e)
+    tied_step C (call.Read j r) = judged (call.Read j r) j told.Read (read_told m j r) (read_after m j r) (λ f. refl) (λ a e. read_tied p T j r a e)
     tied_step C (call.Write j r v) = judged (call.Write j r v) j nothing_more (write_told m j r) (write_after m j r v) (λ f. refl) (λ a e. write_tied j r v (passed (write_fault l j r) (shelved (place_told vs m.room)) a e).0)
     tied_step C (call.HandIn j) =
         judged (call.HandIn j) j nothing_more (hand_in_told m j) (hand_in_after m j) (λ f. refl)
@@ -170,11 +171,11 @@ module _ {V : Type 0} where
         judged (call.Deliver j o) j nothing_more (deliver_told m j o) (deliver_after m j o) (λ f. refl)
         (λ a e. unseen p T (call_deliver j o) (passed (deliver_fault m.offices l j o) (Ok tt) a e).0 (record { call = call.Deliver j o; told = Ok told.Done }) (λ k x. refl) (λ k x. refl) refl (λ k x. refl) refl)
     tied_step C (call.Collect j) =
-        judged (call.Collect j) j collected_told (collect_told m j) (collect_after m j) (λ f. refl)
+        judged (call.Collect j) j told.Collected (collect_told m j) (collect_after m j) (λ f. refl)
         (λ a e.
         let o = passed (collect_fault l j) (Ok (collected (row l j).state)) a e in
         let s : collected (row l j).state ≡ a = (let k : ◌≡◌ {A = Result Collected Fault} (Ok (collected (row l j).state)) (Ok a) = o.1 in cc) in
-        subst (λ y. Tied (record { house = collect_after m j; log = record { call = call.Collect j; told = Ok (collected_told y) } ∷ p.log; line = line_after l (collect_done l j) j p.line })) s (collect_tied j o.0))
+        subst (λ y. Tied (record { house = collect_after m j; log = record { call = call.Collect j; told = Ok (told.Collected y) } ∷ p.log; line = line_after l (collect_done l j) j p.line })) s (collect_tied j o.0))
     tied_step C (call.Close j) =
         judged (call.Close j) j nothing_more (close_told m j) (close_after m j) (λ f. refl)
         (λ a e. answers_one p T (call_close j) (passed (close_fault l j) (Ok tt) a e).0 (record { call = call.Close j; told = Ok told.Done }) (λ k x. refl) (λ k x. refl) j refl (λ k x. refl) refl)

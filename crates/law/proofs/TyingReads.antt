@@ -12,7 +12,7 @@ use Rattle.house.specs.declared.reading.Reading.{Reading}
 use Rattle.house.specs.Model.{HouseModel}
 use Rattle.house.specs.Calls.{reading_from, read_told, read_after}
 use Rattle.house.specs.Committing.{office_in}
-use Rattle.house.specs.Runs.{told_as, reading_told, Event, Progress}
+use Rattle.house.specs.Runs.{told_as, Event, Progress}
 use Rattle.house.specs.Log.{contains, Occurrence, read, occurrence_of, occurrence, kind_by, reads_by, writes_by, answers_by}
 use Rattle.law.proofs.Entries.{Within, records_of, contains_record, valued}
 use Rattle.law.proofs.Tying.{passed, version_told, Tied, read_low, version_found, own_found, rows, told_stays, advanced, unseen}
@@ -39,9 +39,9 @@ module _ {V : Type 0} (p : Progress V) (T : Tied p) where
 
   -- a read of what the job wrote lists nothing
   own_tied : (j r : ℕ) (v : V) → read_fault l j r ≡ None → has_written (row l j).writes r ≡ true →
-      Tied (record { house = read_after m j r; log = record { call = call.Read j r; told = Ok (told.Own v) } ∷ p.log; line = line_after l (read_done l j r) j p.line })
+      Tied (record { house = read_after m j r; log = record { call = call.Read j r; told = Ok (told.Read (reading.Own v)) } ∷ p.log; line = line_after l (read_done l j r) j p.line })
   own_tied j r v f w =
-      unseen p T (call_read j r) f (record { call = call.Read j r; told = Ok (told.Own v) }) (λ k x. ap (λ y. y.reads) (same k x)) (λ k x. ap (λ y. y.writes) (same k x)) refl (λ k x. ap (λ y. y.kind) (same k x)) refl
+      unseen p T (call_read j r) f (record { call = call.Read j r; told = Ok (told.Read (reading.Own v)) }) (λ k x. ap (λ y. y.reads) (same k x)) (λ k x. ap (λ y. y.writes) (same k x)) refl (λ k x. ap (λ y. y.kind) (same k x)) refl
     where
       not_new : is_new_read (row l j) r ≡ false
       not_new = grind arith
@@ -55,7 +55,7 @@ module _ {V : Type 0} (p : Progress V) (T : Tied p) where
 
   -- another read tells the version that is then listed
   version_tied : (j r : ℕ) (x : Reading V) → read_fault l j r ≡ None → has_written (row l j).writes r ≡ false → reading_from vs (version_source l r (version_read l (row l j) r)) ≡ Ok x →
-      Tied (record { house = read_after m j r; log = record { call = call.Read j r; told = Ok (reading_told x) } ∷ p.log; line = line_after l (read_done l j r) j p.line })
+      Tied (record { house = read_after m j r; log = record { call = call.Read j r; told = Ok (told.Read x) } ∷ p.log; line = line_after l (read_done l j r) j p.line })
   version_tied j r x f w g =
       advanced p T (call_read j r) f vs e
       (record {
@@ -72,12 +72,12 @@ module _ {V : Type 0} (p : Progress V) (T : Tied p) where
             subst (λ U. (0 < first_unseen (row (read_done l j r) U).reads s) × (version_told (read_done l j r) vs s (pred (first_unseen (row (read_done l j r) U).reads s)) ≡ e.told)) a
             (subst (λ u. (0 < first_unseen (row (read_done l j r) j).reads u) × (version_told (read_done l j r) vs u (pred (first_unseen (row (read_done l j r) j).reads u)) ≡ e.told)) b (
               omega (arith, listed),
-              ap (λ z. version_told (read_done l j r) vs r (pred z)) listed ∙ told_stays p T (call_read j r) f vs e (λ i l. refl) r n (read_low p T j r) ∙ ap (told_as reading_told) g,
+              ap (λ z. version_told (read_done l j r) vs r (pred z)) listed ∙ told_stays p T (call_read j r) f vs e (λ i l. refl) r n (read_low p T j r) ∙ ap (told_as told.Read) g,
             ));
       })
     where
       e : Event V
-      e = record { call = call.Read j r; told = Ok (reading_told x) }
+      e = record { call = call.Read j r; told = Ok (told.Read x) }
 
       xs : List Read
       xs = (row l j).reads
@@ -89,7 +89,7 @@ module _ {V : Type 0} (p : Progress V) (T : Tied p) where
       D =
           let o = version_found p T r n (read_low p T j r) in
           let s : x ≡ o.0 = (let k : ◌≡◌ {A = Result (Reading V) Fault} (Ok x) (Ok o.0) = sym g ∙ o.1 in cc) in
-          ap (λ y. occurrence_of (call.Read j r) (Ok (reading_told y))) s ∙ o.2 j
+          ap (λ y. occurrence_of (call.Read j r) (Ok (told.Read y))) s ∙ o.2 j
 
       row_after_read : ℕ → Bool → Core
       row_after_read k b = cond b (record { kind = (row l k).kind; reads = (row l k).reads ++ record { «record» = r; version = newest l (row l j) r } ∷ []; writes = W k }) (core (row l k))
@@ -142,16 +142,16 @@ module _ {V : Type 0} (p : Progress V) (T : Tied p) where
           pick false s b q c i = absurd (grind arith)
 
   pub read_tied : (j r : ℕ) (x : Reading V) → read_told m j r ≡ Ok x →
-      Tied (record { house = read_after m j r; log = record { call = call.Read j r; told = Ok (reading_told x) } ∷ p.log; line = line_after l (read_done l j r) j p.line })
+      Tied (record { house = read_after m j r; log = record { call = call.Read j r; told = Ok (told.Read x) } ∷ p.log; line = line_after l (read_done l j r) j p.line })
   read_tied j r x e = go (has_written (row l j).writes r) refl o.1
     where
       o : (read_fault l j r ≡ None) × (reading_from vs (read_source l (row l j) r) ≡ Ok x)
       o = passed (read_fault l j r) (reading_from vs (read_source l (row l j) r)) x e
 
       go : (b : Bool) → has_written (row l j).writes r ≡ b → reading_from vs (cond b (source.Own (written_place (row l j).writes r)) (version_source l r (version_read l (row l j) r))) ≡ Ok x →
-          Tied (record { house = read_after m j r; log = record { call = call.Read j r; told = Ok (reading_told x) } ∷ p.log; line = line_after l (read_done l j r) j p.line })
+          Tied (record { house = read_after m j r; log = record { call = call.Read j r; told = Ok (told.Read x) } ∷ p.log; line = line_after l (read_done l j r) j p.line })
       go true w g =
           let v = own_found p T j r w in
           let s : reading.Own v.0 ≡ x = (let k : ◌≡◌ {A = Result (Reading V) Fault} (Ok (reading.Own v.0)) (Ok x) = sym v.1 ∙ g in cc) in
-          subst (λ y. Tied (record { house = read_after m j r; log = record { call = call.Read j r; told = Ok (reading_told y) } ∷ p.log; line = line_after l (read_done l j r) j p.line })) s (own_tied j r v.0 o.0 w)
+          subst (λ y. Tied (record { house = read_after m j r; log = record { call = call.Read j r; told = Ok (told.Read y) } ∷ p.log; line = line_after l (read_done l j r) j p.line })) s (own_tied j r v.0 o.0 w)
       go false w g = version_tied j r x o.0 w g

@@ -3,7 +3,8 @@ use Rattle.std.specs.Prelude.{◌≡◌, ℕ, List, [], ◌∷◌, map, Ok, Err,
 use Rattle.ledger.specs.declared.fault.LedgerFault.TheVariants.{Held, RecordNumber}
 use Rattle.ledger.specs.declared.job.JobKind.TheVariants.{Amendment, Inspection}
 use Rattle.ledger.specs.declared.job.Mark.TheVariants.{Stale}
-use Rattle.house.specs.Archiving.{Coding, coding, house_archive}
+use Rattle.history.specs.Examples.{own_bytes}
+use Rattle.house.specs.Archiving.{house_archive}
 use Rattle.house.specs.Runs.{Event, Progress, beginning, proceeded}
 use Rattle.house.specs.Log.{answered_in}
 use Rattle.house.specs.declared.fault.Fault.{Fault}
@@ -12,9 +13,8 @@ use Rattle.house.specs.declared.call.Call.{Call}
 use Rattle.house.specs.declared.call.Call.TheVariants.{Open, Read, Write, HandIn, Deliver, Collect, Close, Withdraw, Archive}
 use Rattle.house.specs.declared.call.Told.{Told}
 use Rattle.house.specs.declared.call.Told.TheVariants as told
-
-abbrev pub own_bytes : Coding (List ℕ)
-own_bytes = coding (λ v. v) 1 10
+use Rattle.house.specs.declared.reading.Reading.TheVariants as reading
+use Rattle.ledger.specs.declared.job.Collected.TheVariants.{Answered, Dropped}
 
 abbrev pub after_calls : Progress (List ℕ) → List (Call (List ℕ)) → Progress (List ℕ)
 after_calls p [] = p
@@ -63,13 +63,13 @@ abbrev done : Result (Told (List ℕ)) Fault
 done = Ok told.Done
 
 abbrev blank : Result (Told (List ℕ)) Fault
-blank = Ok told.Blank
+blank = Ok (told.Read reading.Blank)
 
 abbrev held : Result (Told (List ℕ)) Fault
 held = Err (Ledger Held)
 
 abbrev answered : Result (Told (List ℕ)) Fault
-answered = Ok told.Answered
+answered = Ok (told.Collected Answered)
 
 -- what was told stands with the newest first
 
@@ -81,13 +81,13 @@ pub record Alike : Type 0 where
   pub day_answers : answered_in day.log ≡ 1 ∷ 2 ∷ []
   pub other_told :
       all_told other ≡
-      answered ∷ Ok (told.Dropped Stale) ∷ done ∷ done ∷ done ∷ done ∷ done ∷ done ∷ done ∷ done ∷
-      Ok (told.Own dollars) ∷ done ∷ done ∷ done ∷ done ∷ Err (Ledger RecordNumber) ∷ blank ∷ done ∷ blank ∷ done ∷ done ∷ done ∷ done ∷ []
+      answered ∷ Ok (told.Collected (Dropped Stale)) ∷ done ∷ done ∷ done ∷ done ∷ done ∷ done ∷ done ∷ done ∷
+      Ok (told.Read (reading.Own dollars)) ∷ done ∷ done ∷ done ∷ done ∷ Err (Ledger RecordNumber) ∷ blank ∷ done ∷ blank ∷ done ∷ done ∷ done ∷ done ∷ []
   pub same : (house_archive own_bytes day.house ≡ day_archive) × (house_archive own_bytes other.house ≡ day_archive)
 
 -- the same jobs, and another archive
 pub record Unlike : Type 0 where
-  pub turned_told : all_told turned ≡ done ∷ Ok (told.Version 1 dollars) ∷ done ∷ answered ∷ done ∷ done ∷ done ∷ done ∷ done ∷ done ∷ []
+  pub turned_told : all_told turned ≡ done ∷ Ok (told.Read (reading.Version 1 dollars)) ∷ done ∷ answered ∷ done ∷ done ∷ done ∷ done ∷ done ∷ done ∷ []
   pub different : house_archive own_bytes day.house ≡ house_archive own_bytes turned.house → ⊥
 
 -- both amendments are held while one of the inspections is open

@@ -2,13 +2,13 @@
 use Rattle.std.specs.Prelude.{◌≡◌, ℕ, true, List, [], ◌∷◌, ℤ, pos, negsuc, Ok, Err, Result}
 use Rattle.std.specs.Option.{ok_or}
 use Rattle.std.specs.List.{AllByRecursion}
+use Rattle.std.specs.Result.{result_map_both}
 use Rattle.values.specs.Amounts.{amount_from_numbers, amount_bytes}
 use Rattle.values.specs.Standings.{reason_of, standing_bytes}
 use Rattle.values.specs.Faults.{value_fault_number}
 use Rattle.values.specs.declared.amount.Amount.{Amount}
 use Rattle.values.specs.declared.fault.ValueFault.{ValueFault}
 use Rattle.values.specs.declared.fault.ValueFault.TheVariants.{OutOfRange}
-use Rattle.values.specs.declared.standing.Reason.{Reason}
 use Rattle.values.specs.declared.standing.Standing.TheVariants.{Stopped}
 use Rattle.shelves.specs.FramedBytes.{frames_in}
 use Rattle.ledger.specs.Model.{RowModel}
@@ -23,14 +23,8 @@ use Rattle.house.specs.Model.{built}
 use Rattle.law.specs.Kinds.{amount_kind, amounts}
 
 -- the bytes of a value that is made, or the number of the refusal
-
-abbrev pub amount_made : Result Amount ValueFault → Result (List ℕ) ℕ
-amount_made (Ok a) = Ok (amount_bytes a)
-amount_made (Err f) = Err (value_fault_number f)
-
-abbrev pub stop_made : Result Reason ValueFault → Result (List ℕ) ℕ
-stop_made (Ok r) = Ok (standing_bytes (Stopped r))
-stop_made (Err f) = Err (value_fault_number f)
+abbrev pub made_bytes : {V : Type 0} → (V → List ℕ) → Result V ValueFault → Result (List ℕ) ℕ
+made_bytes bytes made = result_map_both bytes value_fault_number made
 
 -- the row of an accepted amendment with these lists
 abbrev pub accepted : List Read → List Write → RowModel
@@ -60,8 +54,8 @@ pub data Case : Type 0 where
 
 abbrev pub Holds : Case → Type 0
 Holds (owned offices r office) = office_in (built {V = Amount} offices [] 0) r ≡ office
-Holds (amount currency units made) = amount_made (amount_from_numbers currency units) ≡ made
-Holds (stopped reason made) = stop_made (ok_or (reason_of reason) OutOfRange) ≡ made
+Holds (amount currency units made) = made_bytes amount_bytes (amount_from_numbers currency units) ≡ made
+Holds (stopped reason made) = made_bytes (λ r. standing_bytes (Stopped r)) (ok_or (reason_of reason) OutOfRange) ≡ made
 Holds (room bytes count) = frames_in amount_kind bytes ≡ count
 Holds (before first later) = precedes first later ≡ true
 Holds (unused archive) = (offices : ℕ) (items : List Amount) (capacity : ℕ) → house_archive amounts (built offices items capacity) ≡ archive

@@ -3,7 +3,7 @@ use Rattle.values.specs.Amounts.{amount_bytes, amount_in, amount_cell, amount_in
 use Rattle.values.specs.declared.amount.Amount.{Amount}
 use Rattle.values.specs.declared.amount.AmountCell.{AmountCell}
 use Rattle.values.specs.declared.value.Value.{Ghosts as Kind}
-use Rattle.house.specs.Archiving.{Coding, coding}
+use Rattle.history.specs.Layout.{Coding, coding}
 
 -- what the kind says of itself, as its implementation has it
 abbrev pub amount_kind : Kind Amount AmountCell
@@ -12,4 +12,4 @@ amount_kind =
 
 -- what an archive needs of it
 abbrev pub amounts : Coding Amount
-amounts = coding amount_kind.bytes amount_kind.kind amount_kind.width
+amounts = coding amount_kind

@@ -8,12 +8,12 @@ use Rattle.ledger.specs.Model.{row, is_accepted}
 use Rattle.ledger.specs.Answering.{is_held}
 use Rattle.ledger.specs.declared.job.State.TheVariants.{Accepted}
 use Rattle.history.specs.Histories.{Leaf, Outline, leaf_of}
-use Rattle.history.specs.Layout.{archive}
+use Rattle.history.specs.Layout.{Coding, archive}
 use Rattle.protocol.specs.Calls.{Reached}
 use Rattle.protocol.specs.Laws.{Calm}
 use Rattle.house.specs.Model.{HouseModel}
 use Rattle.house.specs.Committing.{office_in}
-use Rattle.house.specs.Archiving.{Coding, house_leaves, house_archive, buffer_after}
+use Rattle.house.specs.Archiving.{house_leaves, house_archive, buffer_after}
 use Rattle.house.specs.Runs.{call_told, step, Event, Progress, Run}
 use Rattle.house.specs.Log.{contains, before, occurrence, read, answered_in, is_answered_in, is_earlier_in, ConflictIn, version_in, last_writer_in, outline_in, leaf_in}
 use Rattle.house.specs.declared.fault.Fault.{Fault}
@@ -22,6 +22,8 @@ use Rattle.house.specs.declared.call.Call.{Call}
 use Rattle.house.specs.declared.call.Call.TheVariants.{Collect, Archive}
 use Rattle.house.specs.declared.call.Told.{Told}
 use Rattle.house.specs.declared.call.Told.TheVariants as told
+use Rattle.house.specs.declared.reading.Reading.TheVariants as reading
+use Rattle.ledger.specs.declared.job.Collected.TheVariants.{Answered}
 
 module _ {V : Type 0} where
   -- what a job did, if it was answered
@@ -42,8 +44,8 @@ module _ {V : Type 0} where
   version_from log r (Some writer) = version_in log writer.0 r
 
   abbrev pub told_from : List (Event V) → ℕ → Option (ℕ × V) → Result (Told V) Fault
-  told_from log r None = Ok told.Blank
-  told_from log r (Some writer) = Ok (told.Version (version_in log writer.0 r) writer.1)
+  told_from log r None = Ok (told.Read reading.Blank)
+  told_from log r (Some writer) = Ok (told.Read (reading.Version (version_in log writer.0 r) writer.1))
 
   -- a read of r by job j told t: version and value of the last writer before j, or blank, and the leaf of j lists that version
   pub record Explained (m : HouseModel V) (log : List (Event V)) (j r : ℕ) (t : Result (Told V) Fault) : Type 0 where
@@ -61,7 +63,7 @@ pub record TheLaw {V : Type 0} (C : Coding V) : Type 0 where
       (step C p.house (Archive (length buffer)) ≡ (Ok (told.Archived (length (house_archive C p.house))), p.house)) ×
       (buffer_after C p.house buffer ≡ house_archive C p.house ++ drop (length (house_archive C p.house)) buffer)
   -- it is that of the leaves that the log tells
-  pub archived_log : (p : Progress V) → Run C p → house_archive C p.house ≡ archive C.bytes C.kind C.width (map (leaf_in p.log) (answered_in p.log))
+  pub archived_log : (p : Progress V) → Run C p → house_archive C p.house ≡ archive C (map (leaf_in p.log) (answered_in p.log))
   -- (b) each accepted read, not told as own, of an answered job is explained by the jobs answered before it
   pub reads :
       (p : Progress V) → Run C p → (e : Event V) → Has p.log e → (j r : ℕ) → occurrence e ≡ read j r → is_answered_in p.log j ≡ true →
@@ -71,7 +73,7 @@ pub record TheLaw {V : Type 0} (C : Coding V) : Type 0 where
   -- with no inspection open and no message waiting, the first decided of them, if there are any, is not held, and collect tells answered
   pub first :
       (p : Progress V) → Run C p → Calm p.house.ledger → (j : ℕ) → (row p.house.ledger j).state ≡ Accepted →
-      (t : ℕ) × (ts : List ℕ) × (p.line ≡ t ∷ ts) × (is_held p.house.ledger t ≡ false) × (call_told C p.house (Collect t) ≡ Ok told.Answered)
+      (t : ℕ) × (ts : List ℕ) × (p.line ≡ t ∷ ts) × (is_held p.house.ledger t ≡ false) × (call_told C p.house (Collect t) ≡ Ok (told.Collected Answered))
 
 -- no call of a run finds that the shelf lacks a place
 abbrev pub NeverLacking : {V : Type 0} → Coding V → Type 0

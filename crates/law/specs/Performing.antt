@@ -1,7 +1,8 @@
 -- What a call that runs does, and how it continues the runs of the rules; `src/perform.rt` and `src/lib.rt` cite it. Assumes nothing.
 use Rattle.std.specs.Prelude.{◌≡◌, ℕ, false, List, ◌∷◌, ◌++◌, length, Some, None, Ok, Option, Result}
 use Rattle.house.specs.Model.{HouseModel}
-use Rattle.house.specs.Archiving.{Coding, house_archive, buffer_after}
+use Rattle.history.specs.Layout.{Coding}
+use Rattle.house.specs.Archiving.{house_archive, buffer_after}
 use Rattle.house.specs.RowArchiving.{rows_lack, rows_archive, rows_told, rows_buffer}
 use Rattle.house.specs.Runs.{told_as, call_told, Event, Progress, proceeded, Run}
 use Rattle.house.specs.Log.{writes_in, value_of}
@@ -10,66 +11,46 @@ use Rattle.house.specs.declared.call.Call.{Call}
 use Rattle.house.specs.declared.call.Call.TheVariants.{Open, Read, Write, HandIn, Deliver, Collect, Close, Withdraw, Archive}
 use Rattle.house.specs.declared.call.Told.{Told}
 use Rattle.house.specs.declared.call.Told.TheVariants as told
+use Rattle.house.specs.declared.reading.Reading.TheVariants as reading
 
 module _ {V : Type 0} where
+  -- the first where the call is that of the archive, and the second where it is another
+  abbrev pub if_archive : {X : Type 0} → Call V → X → X → X
+  if_archive (Open j k) x y = y
+  if_archive (Read j r) x y = y
+  if_archive (Write j r v) x y = y
+  if_archive (HandIn j) x y = y
+  if_archive (Deliver j o) x y = y
+  if_archive (Collect j) x y = y
+  if_archive (Close j) x y = y
+  if_archive (Withdraw j) x y = y
+  if_archive (Archive n) x y = x
+
   -- a call with a buffer of so many bytes beside it: the archive gets the whole buffer, whatever length its call names
   abbrev pub fitted : Call V → (room : ℕ) → Call V
-  fitted (Open j k) room = Open j k
-  fitted (Read j r) room = Read j r
-  fitted (Write j r v) room = Write j r v
-  fitted (HandIn j) room = HandIn j
-  fitted (Deliver j o) room = Deliver j o
-  fitted (Collect j) room = Collect j
-  fitted (Close j) room = Close j
-  fitted (Withdraw j) room = Withdraw j
-  fitted (Archive n) room = Archive room
+  fitted c room = if_archive c (Archive room) c
 
   -- the value that was told as own
   abbrev pub own_value : Told V → Option V
   own_value told.Done = None
-  own_value told.Blank = None
-  own_value (told.Own v) = Some v
-  own_value (told.Version n v) = None
-  own_value told.Answered = None
-  own_value (told.Dropped mark) = None
+  own_value (told.Read reading.Blank) = None
+  own_value (told.Read (reading.Own v)) = Some v
+  own_value (told.Read (reading.Version n v)) = None
+  own_value (told.Collected c) = None
   own_value (told.Archived size) = None
 
 module _ {V : Type 0} (C : Coding V) where
   -- what the code tells: it goes by the rules of the calls, but for the archive by the rows
   abbrev pub performed_told : HouseModel V → Call V → (room : ℕ) → Result (Told V) Fault
-  performed_told m (Open j k) room = call_told C m (Open j k)
-  performed_told m (Read j r) room = call_told C m (Read j r)
-  performed_told m (Write j r v) room = call_told C m (Write j r v)
-  performed_told m (HandIn j) room = call_told C m (HandIn j)
-  performed_told m (Deliver j o) room = call_told C m (Deliver j o)
-  performed_told m (Collect j) room = call_told C m (Collect j)
-  performed_told m (Close j) room = call_told C m (Close j)
-  performed_told m (Withdraw j) room = call_told C m (Withdraw j)
-  performed_told m (Archive n) room = told_as told.Archived (rows_told C m room)
+  performed_told m c room = if_archive c (told_as told.Archived (rows_told C m room)) (call_told C m c)
 
   -- what the buffer then holds: the archive alone writes to it
   abbrev pub performed_buffer : HouseModel V → Call V → List ℕ → List ℕ
-  performed_buffer m (Open j k) buffer = buffer
-  performed_buffer m (Read j r) buffer = buffer
-  performed_buffer m (Write j r v) buffer = buffer
-  performed_buffer m (HandIn j) buffer = buffer
-  performed_buffer m (Deliver j o) buffer = buffer
-  performed_buffer m (Collect j) buffer = buffer
-  performed_buffer m (Close j) buffer = buffer
-  performed_buffer m (Withdraw j) buffer = buffer
-  performed_buffer m (Archive n) buffer = rows_buffer C m buffer
+  performed_buffer m c buffer = if_archive c (rows_buffer C m buffer) buffer
 
   -- the same by the rules: the archive of the answered jobs
   abbrev pub call_buffer : HouseModel V → Call V → List ℕ → List ℕ
-  call_buffer m (Open j k) buffer = buffer
-  call_buffer m (Read j r) buffer = buffer
-  call_buffer m (Write j r v) buffer = buffer
-  call_buffer m (HandIn j) buffer = buffer
-  call_buffer m (Deliver j o) buffer = buffer
-  call_buffer m (Collect j) buffer = buffer
-  call_buffer m (Close j) buffer = buffer
-  call_buffer m (Withdraw j) buffer = buffer
-  call_buffer m (Archive n) buffer = buffer_after C m buffer
+  call_buffer m c buffer = if_archive c (buffer_after C m buffer) buffer
 
   -- the run with this call added, fitted to its buffer, is a run that has come to this house;
   -- and what was told, and what the buffer holds, is what the rules say in the house where the call began

@@ -1,58 +1,15 @@
 // The law on a call that runs: any one of the nine calls, as a value, and what every run keeps through it.
 ghost use Rattle.std.specs.Prelude.{◌≡◌, length};
-ghost use Rattle.house.specs.Archiving.{coding};
+ghost use Rattle.history.specs.Layout.{coding};
 ghost use Rattle.house.specs.Model.{model};
-ghost use Rattle.house.specs.Runs.{told_as, nothing_more, reading_told, collected_told, call_after};
-ghost use Rattle.house.specs.declared.call.Told.TheVariants as told;
+ghost use Rattle.house.specs.Runs.{call_after};
 ghost use Rattle.law.specs.Law.{TheLaw};
 ghost use Rattle.law.specs.Performing.{performed_told, performed_buffer, Continues, OwnTold};
 
 use house::call::{Call, Told};
 use house::fault::Fault;
 use house::house::House;
-use house::reading::Reading;
-use ledger::job::Collected;
 use shelves::shelf::Shelf;
-use values::value::Value;
-
-fn done<V: Value>(answer: Result<(), Fault>) -> Result<Told<V>, Fault>
-    ensures { result ≡ told_as nothing_more answer }
-{
-    match answer {
-        Ok(()) => Ok(Told::Done),
-        Err(fault) => Err(fault),
-    }
-}
-
-fn read<V: Value>(answer: Result<Reading<V>, Fault>) -> Result<Told<V>, Fault>
-    ensures { result ≡ told_as reading_told answer }
-{
-    match answer {
-        Ok(Reading::Blank) => Ok(Told::Blank),
-        Ok(Reading::Own(value)) => Ok(Told::Own(value)),
-        Ok(Reading::Version { number, value }) => Ok(Told::Version { number, value }),
-        Err(fault) => Err(fault),
-    }
-}
-
-fn collected<V: Value>(answer: Result<Collected, Fault>) -> Result<Told<V>, Fault>
-    ensures { result ≡ told_as collected_told answer }
-{
-    match answer {
-        Ok(Collected::Answered) => Ok(Told::Answered),
-        Ok(Collected::Dropped(mark)) => Ok(Told::Dropped(mark)),
-        Err(fault) => Err(fault),
-    }
-}
-
-fn archived<V: Value>(answer: Result<u64, Fault>) -> Result<Told<V>, Fault>
-    ensures { result ≡ told_as told.Archived answer }
-{
-    match answer {
-        Ok(size) => Ok(Told::Archived { size }),
-        Err(fault) => Err(fault),
-    }
-}
 
 // Does a call, by the call of that name.
 fn dispatch<S: Shelf>(
@@ -60,20 +17,41 @@ fn dispatch<S: Shelf>(
     call: Call<S::Value>,
     buffer: &mut [u8],
 ) -> Result<Told<S::Value>, Fault>
-    ensures told { result ≡ performed_told (coding S.Value.Value.bytes S.Value.Value.kind S.Value.Value.width) (model S.items S.room house.old) call (length buffer.old) }
-    ensures after { model S.items S.room house.new ≡ call_after (coding S.Value.Value.bytes S.Value.Value.kind S.Value.Value.width) (model S.items S.room house.old) call }
-    ensures buffer { buffer.new ≡ performed_buffer (coding S.Value.Value.bytes S.Value.Value.kind S.Value.Value.width) (model S.items S.room house.old) call buffer.old }
+    ensures told { result ≡ performed_told (coding S.Value.Value) (model S.items S.room house.old) call (length buffer.old) }
+    ensures after { model S.items S.room house.new ≡ call_after (coding S.Value.Value) (model S.items S.room house.old) call }
+    ensures buffer { buffer.new ≡ performed_buffer (coding S.Value.Value) (model S.items S.room house.old) call buffer.old }
 {
     match call {
-        Call::Open { job, kind } => done(house.open(job, kind)),
-        Call::Read { job, record } => read(house.read(job, record)),
-        Call::Write { job, record, value } => done(house.write(job, record, value)),
-        Call::HandIn { job } => done(house.hand_in(job)),
-        Call::Deliver { job, office } => done(house.deliver(job, office)),
-        Call::Collect { job } => collected(house.collect(job)),
-        Call::Close { job } => done(house.close(job)),
-        Call::Withdraw { job } => done(house.withdraw(job)),
-        Call::Archive { room: _ } => archived(house.archive(buffer)),
+        Call::Open { job, kind } => {
+            house.open(job, kind)?;
+            Ok(Told::Done)
+        }
+        Call::Read { job, record } => Ok(Told::Read(house.read(job, record)?)),
+        Call::Write { job, record, value } => {
+            house.write(job, record, value)?;
+            Ok(Told::Done)
+        }
+        Call::HandIn { job } => {
+            house.hand_in(job)?;
+            Ok(Told::Done)
+        }
+        Call::Deliver { job, office } => {
+            house.deliver(job, office)?;
+            Ok(Told::Done)
+        }
+        Call::Collect { job } => Ok(Told::Collected(house.collect(job)?)),
+        Call::Close { job } => {
+            house.close(job)?;
+            Ok(Told::Done)
+        }
+        Call::Withdraw { job } => {
+            house.withdraw(job)?;
+            Ok(Told::Done)
+        }
+        Call::Archive { .. } => {
+            let size = house.archive(buffer)?;
+            Ok(Told::Archived { size })
+        }
     }
 }
 
@@ -90,12 +68,12 @@ pub fn perform<S: Shelf>(
     call: Call<S::Value>,
     buffer: &mut [u8],
 ) -> Result<Told<S::Value>, Fault>
-    ensures told { result ≡ performed_told (coding S.Value.Value.bytes S.Value.Value.kind S.Value.Value.width) (model S.items S.room house.old) call (length buffer.old) }
-    ensures after { model S.items S.room house.new ≡ call_after (coding S.Value.Value.bytes S.Value.Value.kind S.Value.Value.width) (model S.items S.room house.old) call }
-    ensures buffer { buffer.new ≡ performed_buffer (coding S.Value.Value.bytes S.Value.Value.kind S.Value.Value.width) (model S.items S.room house.old) call buffer.old }
-    ensures law { TheLaw (coding S.Value.Value.bytes S.Value.Value.kind S.Value.Value.width) }
-    ensures own { OwnTold (coding S.Value.Value.bytes S.Value.Value.kind S.Value.Value.width) }
-    ensures chain { Continues (coding S.Value.Value.bytes S.Value.Value.kind S.Value.Value.width) (model S.items S.room house.old) call buffer.old result buffer.new (model S.items S.room house.new) }
+    ensures told { result ≡ performed_told (coding S.Value.Value) (model S.items S.room house.old) call (length buffer.old) }
+    ensures after { model S.items S.room house.new ≡ call_after (coding S.Value.Value) (model S.items S.room house.old) call }
+    ensures buffer { buffer.new ≡ performed_buffer (coding S.Value.Value) (model S.items S.room house.old) call buffer.old }
+    ensures law { TheLaw (coding S.Value.Value) }
+    ensures own { OwnTold (coding S.Value.Value) }
+    ensures chain { Continues (coding S.Value.Value) (model S.items S.room house.old) call buffer.old result buffer.new (model S.items S.room house.new) }
 {
     dispatch(house, call, buffer)
 }

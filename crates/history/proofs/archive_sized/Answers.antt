@@ -3,6 +3,4 @@ use Rattle.history.proofs.ValueLaws.{lawful}
 use Rattle.history.proofs.archive_sized.Goals as goal
 
 pub returns : goal.returns
-returns g c =
-    archive_sized g.V.Value.bytes g.V.Value.kind g.V.Value.width
-    (lawful g.V.Value.bytes g.V.Value.parsed g.V.Value.width g.met.V.Value.bytes_width g.met.V.Value.parsed_bytes)
+returns g c = archive_sized _ (lawful g.V.Value g.met.V.Value.bytes_width g.met.V.Value.parsed_bytes)

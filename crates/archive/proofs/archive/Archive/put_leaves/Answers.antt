@@ -1,0 +1,39 @@
+use Rattle.std.proofs.Common.{◌≡◌, ◌+◌, true, false, length, get_or, sym, ap, ◌∙◌}
+use Rattle.history.specs.Layout.{coding}
+use Rattle.ledger.specs.Model.{is_answered}
+use Rattle.ledger.specs.View.{row_view}
+use Rattle.ledger.proofs.Views.{no_table_row}
+use Rattle.archive.proofs.Outputs.{rest_put, turn_with_leaf, turn_without, rows_end, complete_at}
+use Rattle.archive.proofs.archive.Archive.put_leaves.Goals as goal
+use Rattle.archive.proofs.archive.Archive.put_leaves.Goals.{then-has_leaf, else-has_leaf}
+
+-- the row that is written is the row of this turn, and its job is answered
+pub put_leaf-requires : goal.put_leaf-requires
+put_leaf-requires g c =
+    let rows = c.args.self.now.ledger.now.rows in
+    let i = c.loop-job.job in
+    let answered : is_answered (row_view (get_or rows i no_table_row)).state ≡ true = cc c.if-has_leaf.ensures in
+    let complete = complete_at (length (g.S.Shelf.items c.args.self.now.shelf.now)) rows i no_table_row c.loop-job-test.true c.args.self.now.complete answered in
+    cc
+
+pub loop-job-preserved : goal.loop-job-preserved
+loop-job-preserved g c =
+    let m = coding g.S.Value.Value in
+    let items = g.S.Shelf.items c.args.self.now.shelf.now in
+    let rows = c.args.self.now.ledger.now.rows in
+    let i = c.loop-job.job in
+    let x = row_view (get_or rows i no_table_row) in
+    elim c.if-has_leaf.branch [
+      | then-has_leaf w ↦ (
+          let answered : is_answered x.state ≡ true = cc w.if-has_leaf.ensures in
+          ap (rest_put m items rows (i + 1)) w.cursor-is ∙ turn_with_leaf m items rows i no_table_row c.loop-job.cursor c.loop-job-test.true w.put_leaf.new.cursor answered w.put_leaf.ensures ∙ c.loop-job.invariant
+          )
+      | else-has_leaf w ↦ (
+          let unanswered : is_answered x.state ≡ false = cc w.if-has_leaf.ensures in
+          ap (rest_put m items rows (i + 1)) w.cursor-is ∙ turn_without m items rows i no_table_row c.loop-job.cursor c.loop-job-test.true unanswered ∙ c.loop-job.invariant
+          )
+    ]
+
+pub returns : goal.returns
+returns g c =
+    sym (rows_end (coding g.S.Value.Value) (g.S.Shelf.items c.args.self.now.shelf.now) c.args.self.now.ledger.now.rows c.loop-job.job c.loop-job.cursor c.loop-job-test.false) ∙ c.loop-job.invariant
