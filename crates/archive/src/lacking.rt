@@ -5,16 +5,9 @@ ghost use Rattle.archive.specs.Leaves.{lacks_write, lacks_value};
 ghost use Rattle.ledger.specs.Model.{is_answered};
 ghost use Rattle.ledger.specs.View.{view, row_view};
 
-use ledger::job::{Row, State, Write};
+use ledger::job::{Row, Write};
 use ledger::ledger::Ledger;
 use shelves::shelf::Shelf;
-
-// Whether a job's commit is known to its client: such a job has a leaf.
-pub(crate) fn has_leaf(row: &Row) -> bool
-    ensures { result ≡ is_answered (row_view row.now).state }
-{
-    matches!(row.state, State::Answered)
-}
 
 // Whether a shelf of so many values lacks one of these writes.
 fn lacks_write(count: u64, writes: &[Write]) -> bool
@@ -27,7 +20,7 @@ fn lacks_write(count: u64, writes: &[Write]) -> bool
 fn row_lacks(count: u64, row: &Row) -> bool
     ensures { result ≡ (is_answered (row_view row.now).state && lacks_write count (row_view row.now).writes) }
 {
-    has_leaf(row) && lacks_write(count, row.writes.as_slice())
+    row.is_answered() && lacks_write(count, row.writes.as_slice())
 }
 
 // Whether it lacks one of the leaves of these rows.
