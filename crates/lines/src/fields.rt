@@ -1,5 +1,5 @@
 // The fields of a line, read one after another from its front.
-ghost use Rattle.std.specs.Prelude.{◌≡◌, ◌^◌, ◌<◌, Some, None, MatchOption, nat_eq, length, ⊤};
+ghost use Rattle.std.specs.Prelude.{◌≡◌, ◌^◌, ◌<◌, Some, None, IfNone, MatchOption, nat_eq, length};
 ghost use Rattle.lines.specs.Grammar.{most_digits, digits, number, behind, field, signed_field};
 
 use std::str;
@@ -38,7 +38,7 @@ impl<'a> Fields<'a> {
     // Takes one byte, if it is the next.
     fn byte(&mut self, byte: u8) -> Option<()>
         ensures taken { MatchOption result (behind byte self.old.rest.now ≡ None) (λ _. behind byte self.old.rest.now ≡ Some self.new.rest.now) }
-        ensures kept { MatchOption result (self.new.rest.now ≡ self.old.rest.now) (λ _. ⊤) }
+        ensures kept { IfNone result (self.new.rest.now ≡ self.old.rest.now) }
     {
         self.rest = self.rest.strip_prefix(&[byte])?;
         Some(())
