@@ -1,19 +1,41 @@
--- The number that the digits at the front of some bytes write is the one that `parse` reads. Assumes nothing.
-use Rattle.std.proofs.Common.{◌≡◌, ℕ, suc, ◌+◌, ◌-◌, ◌*◌, ◌^◌, ◌<◌, ◌≤◌, Bool, true, false, cond, leb, List, [], ◌∷◌, length, take, drop, Option, Some, None, MatchOption, Bor, MatchResult, Result, Ok, Err, fold, refl, sym, ◌∙◌, ap, subst, arith, rules}
-use Rattle.std.proofs.lemmas.Str.Parse.{IsNumeralModel, numerals_by_fold, tells_all_ascii_digits, parse_digits, digits_value_short}
-use Rattle.std.proofs.lemmas.Str.{IsUtf8-from_ascii}
-use Rattle.std.proofs.lemmas.Fmt.{IsAscii-from_digits}
-use Rattle.std.proofs.lemmas.Bool.{le-leb, lt-leb, leb-true}
-use Rattle.std.proofs.lemmas.List.Folds.{length-prefix_len}
+-- What the digits at the front of some bytes write. Assumes nothing.
+use Rattle.std.proofs.Common.{◌≡◌, ℕ, suc, ◌+◌, ◌-◌, ◌*◌, ◌^◌, ◌<◌, ◌≤◌, ◌⊎◌, inl, inr, Bool, true, false, cond, leb, List, [], ◌∷◌, length, get_or, take, drop, Some, None, fold, refl, sym, ◌∙◌, ap, pow-suc, add-one, arith, rules}
+use native.Mathlib.Nat.{pow-le-pow_right}
+use Rattle.std.proofs.lemmas.Str.Parse.{IsNumeralModel, numerals_by_fold, tells_all_ascii_digits, digit_at, digits_value_short}
+use Rattle.std.proofs.lemmas.Bool.{le-leb, lt-leb}
+use Rattle.std.proofs.lemmas.List.{length-take-le}
+use Rattle.std.proofs.lemmas.List.Sums.{fold_more, prefix_len-le-length}
 use Rattle.std.specs.Char.{is_ascii_digit}
-use Rattle.std.specs.Result.{result_ok}
-use Rattle.std.specs.Str.{all_ascii_digits, IsUtf8}
-use Rattle.std.specs.Str.Parse.{ParsesUnsigned}
+use Rattle.std.specs.Str.{all_ascii_digits}
 use Rattle.lines.specs.Grammar.{digit_zero, most_digits, written, digits, number}
 
 -- `written` is the value of digits
 numerals : IsNumeralModel (λ s. all_ascii_digits s ≡ true) written
 numerals = numerals_by_fold _ tells_all_ascii_digits (λ n s. fold (λ m d. m * 10 + (d - digit_zero)) n s) (search rules)
+
+-- the first n digits of s write v
+pub record ReadSoFar (s : List ℕ) (n v : ℕ) : Type 0 where
+  pub worth : v ≡ written (take n s)
+  pub bound : v < 10 ^ n
+
+pub value_bound : {s : List ℕ} {n v : ℕ} → ReadSoFar s n v → n ≤ most_digits → v < 10 ^ most_digits
+value_bound {s} {n} {v} h few = let p : 10 ^ n ≤ 10 ^ most_digits = pow-le-pow_right (omega arith) few in omega (arith, h.bound, p)
+
+pub nothing_read : (s : List ℕ) → ReadSoFar s 0 0
+nothing_read s = record { worth = refl; bound = omega arith }
+
+pub digit_bounds : (s : List ℕ) (n : ℕ) → all_ascii_digits s ≡ true → n < length s → (48 ≤ get_or s n 0) × (get_or s n 0 ≤ 57)
+digit_bounds s n d lt = digit_at s n (numerals.to s d) lt
+
+-- one digit more: n digits below 10 ^ n, and one more, stay below 10 ^ (n + 1)
+pub one_more : {s : List ℕ} {n v : ℕ} → ReadSoFar s n v → n < length s → all_ascii_digits s ≡ true → ReadSoFar s (n + 1) (v * 10 + (get_or s n 0 - digit_zero))
+one_more {s} {n} {v} h lt d =
+    let b = digit_bounds s n d lt in
+    let grow : 10 ^ (n + 1) ≡ 10 ^ n * 10 = ap (λ k. 10 ^ k) (add-one n) ∙ pow-suc 10 n in
+    record {
+      worth = ap (λ m. m * 10 + (get_or s n 0 - digit_zero)) h.worth ∙ sym (fold_more (λ m c. m * 10 + (c - digit_zero)) 0 s n 0 lt);
+      bound = omega (arith, h.bound, grow, b.0, b.1);
+    }
 
 -- the bytes at the front that are counted as digits
 abbrev pub front : List ℕ → List ℕ
@@ -28,43 +50,19 @@ front_digits : (s : List ℕ) → all_ascii_digits (front s) ≡ true
 front_digits [] = refl
 front_digits (b ∷ s) = front_with_byte b (is_ascii_digit b) s refl (front_digits s)
 
-pub too_many_digits : (s : List ℕ) → most_digits < digits s → number s ≡ None
+pub first_are_digits : (s : List ℕ) (n : ℕ) (ds : List ℕ) → n ≡ digits s → ds ≡ take n s → all_ascii_digits ds ≡ true
+first_are_digits s n ds e d = rw (d, e) (front_digits s)
+
+pub no_number : (s : List ℕ) (n : ℕ) → n ≡ digits s → (n ≡ 0) ⊎ ((n ≡ 0 → ⊥) × (most_digits < n)) → number s ≡ None
 unfolding number
-too_many_digits s lt = let l : leb (digits s) most_digits ≡ false = lt-leb _ _ lt in let f : leb 1 (digits s) ≡ true = le-leb _ _ (omega arith) in rw (f, l) refl
+no_number s n e (inl z) = rw (← e, z) refl
+no_number s n e (inr (some, many)) = let l : leb n most_digits ≡ false = lt-leb _ _ many in let f : leb 1 n ≡ true = le-leb _ _ (omega arith) in rw (← e, f, l) refl
 
--- the number at the front of s is what o holds, and rest stands behind it
-abbrev pub IsReadAs : List ℕ → List ℕ → Option ℕ → Type 0
-IsReadAs s rest o = MatchOption o (number s ≡ None) (λ v. (number s ≡ Some (v, rest)) × (v < 10 ^ most_digits))
-
--- t tells whether there is a digit
-nothing_read : (t : Bool) (s : List ℕ) → leb 1 (digits s) ≡ t → ¬ (0 < digits s) → number s ≡ None
+-- the number at the front, where there are 1 to 13 digits
+pub number_read : (s : List ℕ) (n : ℕ) (ds rest : List ℕ) (v : ℕ) → n ≡ digits s → (n ≡ 0 → ⊥) → n ≤ most_digits → ds ≡ take n s → rest ≡ drop n s → v ≡ written ds → (number s ≡ Some (v, rest)) × (v < 10 ^ most_digits)
 unfolding number
-nothing_read true s e h = absurd (h (leb-true _ _ e))
-nothing_read false s e h = rw e refl
-
-front_parsed : {E : Type 0} (s : List ℕ) (r : Result ℕ E) → digits s ≤ most_digits → ParsesUnsigned {E = E} 64 10 (front s) r → IsReadAs s (drop (digits s) s) (result_ok r)
-unfolding number
-front_parsed {E} s (Ok v) few h =
-    let p : ((0 < length (front s)) × (written (front s) < 2 ^ 64)) × (v ≡ written (front s)) = parse_digits numerals {E = E} 64 (front s) (Ok v) h (front_digits s) in
-    let n : length (front s) ≡ digits s = length-prefix_len is_ascii_digit s in
-    let f : leb 1 (digits s) ≡ true = le-leb _ _ (omega (arith, p.0.0, n)) in
-    let l : leb (digits s) most_digits ≡ true = le-leb _ _ few in
-    let short : written (front s) < 10 ^ most_digits = digits_value_short numerals (front s) most_digits (front_digits s) (omega (arith, n)) in
-    (rw (f, l, p.1) refl, omega (arith, p.1, short))
-front_parsed {E} s (Err e) few h =
-    let n : length (front s) ≡ digits s = length-prefix_len is_ascii_digit s in
-    let short : written (front s) < 10 ^ most_digits = digits_value_short numerals (front s) most_digits (front_digits s) (omega (arith, n)) in
-    nothing_read _ s refl (λ some. parse_digits numerals {E = E} 64 (front s) (Err e) h (front_digits s) (omega (arith, n, some), omega (arith, short)))
-
-pub number_parsed : {E : Type 0} (s rest : List ℕ) (n : ℕ) (text : List ℕ) (r : Result ℕ E) (o : Option ℕ) → n ≡ digits s → n ≤ most_digits → text ≡ take n s → rest ≡ drop n s → ParsesUnsigned {E = E} 64 10 text r → o ≡ result_ok r → IsReadAs s rest o
-number_parsed {E} s rest n text r o e few t d h q =
-    let f : text ≡ front s = t ∙ ap (λ k. take k s) e in
-    let b : rest ≡ drop (digits s) s = d ∙ ap (λ k. drop k s) e in
-    let p : ParsesUnsigned {E = E} 64 10 (front s) r = subst (λ bs. ParsesUnsigned {E = E} 64 10 bs r) f h in
-    rw (b, q) (front_parsed s r (omega (arith, e)) p)
-
--- the digits at the front are text
-pub front_text : {E : Type 0} (Q : E → Type 0) (s : List ℕ) (n : ℕ) (bs : List ℕ) (r : Result (Bor (List ℕ)) E) (o : Option (Bor (List ℕ))) → n ≡ digits s → bs ≡ take n s →
-    MatchResult r (λ t. (t.now ≡ bs) × IsUtf8 bs) (λ e. ¬ (IsUtf8 bs) × Q e) → o ≡ result_ok r → MatchOption o ⊥ (λ t. t.now ≡ bs)
-front_text Q s n bs (Ok t) o e b h q = rw q h.0
-front_text Q s n bs (Err x) o e b h q = absurd (h.0 (subst IsUtf8 (sym (b ∙ ap (λ k. take k s) e)) (IsUtf8-from_ascii _ (IsAscii-from_digits _ (numerals.to _ (front_digits s))))))
+number_read s n ds rest v e some few d r w =
+    let f : leb 1 n ≡ true = le-leb _ _ (omega arith) in
+    let l : leb n most_digits ≡ true = le-leb _ _ few in
+    let short : written ds < 10 ^ most_digits = digits_value_short numerals ds most_digits (first_are_digits s n ds e d) (omega (arith, few, ap length d, length-take-le n s (omega (arith, e, prefix_len-le-length is_ascii_digit s)))) in
+    (rw (← e, f, l, w, d, r) refl, omega (arith, w, short))
