@@ -18,8 +18,3 @@ onto b (l ∷ ls) = (b ∷ l) ∷ ls
 abbrev pub lines_of : List ℕ → List (List ℕ)
 lines_of [] = []
 lines_of (b ∷ s) = cond (b == newline) ([] ∷ lines_of s) (onto b (lines_of s))
-
--- what stands behind the first byte
-abbrev pub behind_first : List ℕ → List ℕ
-behind_first [] = []
-behind_first (b ∷ s) = s

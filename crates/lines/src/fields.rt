@@ -1,64 +1,90 @@
-// Numbers at the front of a byte string, each told with what stands behind it.
-ghost use Rattle.std.specs.Prelude.{◌≡◌, ◌^◌, ◌<◌, IfSome, Some, None, MatchOption};
-ghost use Rattle.lines.specs.Grammar.{most_digits, number, behind, field, signed_number, signed_field};
+// The fields of a line, read one after another from its front.
+ghost use Rattle.std.specs.Prelude.{◌≡◌, ◌^◌, ◌<◌, ◌≤◌, true, Some, None, IfNone, MatchOption, nat_eq, length};
+ghost use Rattle.std.specs.Str.{all_ascii_digits};
+ghost use Rattle.lines.specs.Grammar.{most_digits, digits, written, number, behind, field, signed_field};
 
 // A number has at most so many digits.
 const MOST_DIGITS: usize = 13;
 
-// The number at the front, of 1 to 13 digits.
-fn number_at(bytes: &[u8]) -> Option<(u64, &[u8])>
-    ensures value { MatchOption result (number bytes.now ≡ None) (λ p. number bytes.now ≡ Some (p.0, p.1.now)) }
-    ensures bound { IfSome result (λ p. p.0 < 10 ^ most_digits) }
+// How many digits stand at the front.
+fn count_digits(bytes: &[u8]) -> usize
+    ensures { result ≡ digits bytes.now }
 {
-    let mut n = 0;
-    let mut value: u64 = 0;
-    while n < bytes.len() && bytes[n].is_ascii_digit() {
-        if n == MOST_DIGITS {
+    bytes.iter().take_while(|b| b.is_ascii_digit()).count()
+}
+
+// The number that 13 digits at most write.
+fn value(digits: &[u8]) -> u64
+    requires digits { all_ascii_digits digits.now ≡ true }
+    requires few { length digits.now ≤ most_digits }
+    ensures { result ≡ written digits.now }
+{
+    let mut value = 0;
+    // A loop, since `parse` makes a day sheet a tenth slower.
+    for digit in digits {
+        value = value * 10 + u64::from(*digit - b'0');
+    }
+    value
+}
+
+// The bytes of a line that are still to be read. Where a field is missing, what is left has no meaning.
+#[derive(Drop)]
+pub(crate) struct Fields<'a> {
+    rest: &'a [u8],
+}
+
+impl<'a> Fields<'a> {
+    // All fields in some bytes.
+    pub(crate) fn new(bytes: &'a [u8]) -> Fields<'a>
+        ensures { result.rest.now ≡ bytes.now }
+    {
+        Fields { rest: bytes }
+    }
+
+    // Whether nothing is left.
+    pub(crate) fn is_empty(&self) -> bool
+        ensures { result ≡ nat_eq (length self.now.rest.now) 0 }
+    {
+        self.rest.is_empty()
+    }
+
+    // Takes one byte, if it is the next.
+    fn byte(&mut self, byte: u8) -> Option<()>
+        ensures taken { MatchOption result (behind byte self.old.rest.now ≡ None) (λ _. behind byte self.old.rest.now ≡ Some self.new.rest.now) }
+        ensures kept { IfNone result (self.new.rest.now ≡ self.old.rest.now) }
+    {
+        self.rest = self.rest.strip_prefix(&[byte])?;
+        Some(())
+    }
+
+    // Takes a number of 1 to 13 digits.
+    fn digits(&mut self) -> Option<u64>
+        ensures { MatchOption result (number self.old.rest.now ≡ None) (λ n. (number self.old.rest.now ≡ Some (n, self.new.rest.now)) × (n < 10 ^ most_digits)) }
+    {
+        let count = count_digits(self.rest);
+        if count == 0 || count > MOST_DIGITS {
             return None;
         }
-        value = value * 10 + u64::from(bytes[n] - b'0');
-        n += 1;
+        let (digits, rest) = self.rest.split_at(count);
+        self.rest = rest;
+        Some(value(digits))
     }
-    if n == 0 {
-        return None;
+
+    // Takes a number behind one blank.
+    pub(crate) fn number(&mut self) -> Option<u64>
+        ensures { MatchOption result (field self.old.rest.now ≡ None) (λ n. field self.old.rest.now ≡ Some (n, self.new.rest.now)) }
+    {
+        self.byte(b' ')?;
+        self.digits()
     }
-    Some((value, &bytes[n..]))
-}
 
-// What stands behind the byte `first`, if that is the first.
-fn behind_byte(first: u8, bytes: &[u8]) -> Option<&[u8]>
-    ensures { MatchOption result (behind first bytes.now ≡ None) (λ t. behind first bytes.now ≡ Some t.now) }
-{
-    let (found, rest) = bytes.split_first()?;
-    if *found == first { Some(rest) } else { None }
-}
-
-// A number behind one blank.
-pub(crate) fn field_at(bytes: &[u8]) -> Option<(u64, &[u8])>
-    ensures { MatchOption result (field bytes.now ≡ None) (λ p. field bytes.now ≡ Some (p.0, p.1.now)) }
-{
-    number_at(behind_byte(b' ', bytes)?)
-}
-
-// A number that may begin with a minus.
-fn signed_number_at(bytes: &[u8]) -> Option<(i64, &[u8])>
-    ensures { MatchOption result (signed_number bytes.now ≡ None) (λ p. signed_number bytes.now ≡ Some (p.0, p.1.now)) }
-{
-    match behind_byte(b'-', bytes) {
-        Some(digits) => {
-            let (n, rest) = number_at(digits)?;
-            Some((-(n as i64), rest))
-        }
-        None => {
-            let (n, rest) = number_at(bytes)?;
-            Some((n as i64, rest))
-        }
+    // Takes a number behind one blank that may begin with a minus.
+    pub(crate) fn signed_number(&mut self) -> Option<i64>
+        ensures { MatchOption result (signed_field self.old.rest.now ≡ None) (λ n. signed_field self.old.rest.now ≡ Some (n, self.new.rest.now)) }
+    {
+        self.byte(b' ')?;
+        let negative = self.byte(b'-').is_some();
+        let size = i64::try_from(self.digits()?).ok()?;
+        Some(if negative { -size } else { size })
     }
-}
-
-// A number behind one blank that may begin with a minus.
-pub(crate) fn signed_field_at(bytes: &[u8]) -> Option<(i64, &[u8])>
-    ensures { MatchOption result (signed_field bytes.now ≡ None) (λ p. signed_field bytes.now ≡ Some (p.0, p.1.now)) }
-{
-    signed_number_at(behind_byte(b' ', bytes)?)
 }

@@ -1,23 +1,29 @@
 // The first character of a line, which chooses the command.
 ghost use Rattle.std.specs.Prelude.{◌≡◌};
+ghost use Rattle.std.specs.Option.{ok_or};
 ghost use Rattle.lines.specs.Commands.{letter_of};
+ghost use Rattle.lines.specs.declared.command.LineFault.TheVariants.{UnknownLetter};
 
-use crate::command::Letter;
+use crate::command::{Letter, LineFault};
 
-// The letter that a character is.
-pub fn letter(c: char) -> Option<Letter>
-    ensures { result ≡ letter_of c }
-{
-    match c {
-        'a' => Some(Letter::Amendment),
-        'i' => Some(Letter::Inspection),
-        'r' => Some(Letter::Read),
-        'w' => Some(Letter::Write),
-        'h' => Some(Letter::HandIn),
-        'd' => Some(Letter::Deliver),
-        'c' => Some(Letter::Collect),
-        'e' => Some(Letter::Close),
-        'u' => Some(Letter::Withdraw),
-        _ => None,
+// The letter that a character is; refused (19) if it chooses no command.
+impl TryFrom<char> for Letter {
+    type Error = LineFault;
+
+    ghost try_from_gives = { λ c r. r ≡ ok_or (letter_of c) UnknownLetter };
+
+    fn try_from(c: char) -> Result<Letter, LineFault> {
+        match c {
+            'a' => Ok(Letter::Amendment),
+            'i' => Ok(Letter::Inspection),
+            'r' => Ok(Letter::Read),
+            'w' => Ok(Letter::Write),
+            'h' => Ok(Letter::HandIn),
+            'd' => Ok(Letter::Deliver),
+            'c' => Ok(Letter::Collect),
+            'e' => Ok(Letter::Close),
+            'u' => Ok(Letter::Withdraw),
+            _ => Err(LineFault::UnknownLetter),
+        }
     }
 }

@@ -3,8 +3,8 @@
 
 pub mod command;
 pub mod cut;
-pub mod fields;
-pub mod letter;
+mod fields;
+mod letter;
 pub mod lines;
 pub mod parse;
 #[cfg(test)]

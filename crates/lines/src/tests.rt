@@ -1,12 +1,11 @@
 // Lines with the commands or faults that they give, and inputs with their lines.
-use crate::command::{Command, LineFault};
-use crate::letter::letter;
+use crate::command::{Command, Letter, LineFault};
 use crate::lines::Lines;
 use crate::parse::{command_of, parse};
 
 // The command that a letter and its fields write.
 fn written(c: char, fields: &[u8]) -> Option<Command> {
-    command_of(letter(c)?, fields)
+    command_of(Letter::try_from(c).ok()?, fields)
 }
 
 #[test]

@@ -3,7 +3,6 @@ use Rattle.std.specs.Prelude.{ℕ, List, ℤ, Ok, Err, Result}
 use Rattle.values.specs.Amounts.{amount_from_numbers}
 use Rattle.values.specs.declared.amount.Amount.{Amount}
 use Rattle.values.specs.declared.fault.ValueFault.{ValueFault}
-use Rattle.ledger.specs.declared.job.Collected.{Collected}
 use Rattle.ledger.specs.declared.job.JobKind.TheVariants.{Amendment, Inspection}
 use Rattle.lines.specs.Commands.{parsed}
 use Rattle.lines.specs.declared.command.Command.{Command}
@@ -15,7 +14,6 @@ use Rattle.house.specs.Faults.{kept}
 use Rattle.house.specs.Model.{HouseModel}
 use Rattle.house.specs.declared.fault.Fault.{Fault}
 use Rattle.house.specs.declared.fault.Fault.TheVariants as fault
-use Rattle.house.specs.declared.reading.Reading.{Reading}
 use Rattle.sheet.specs.declared.answer.Answer.{Answer}
 use Rattle.sheet.specs.declared.answer.Answer.TheVariants as answer
 use Rattle.sheet.specs.declared.refusal.Cause.{Cause}
@@ -37,27 +35,22 @@ abbrev pub write_amount_after : HouseModel Amount → ℕ → ℕ → ℕ → �
 write_amount_after m j r c u = write_after_of (amount_from_numbers c u) m j r
 
 -- what the house told, as the answer of a command
+abbrev pub told_by : {T : Type 0} → (T → Answer) → Result T Fault → Result Answer Cause
+told_by answer_of (Ok x) = Ok (answer_of x)
+told_by answer_of (Err f) = Err (cause.House f)
 
+-- the same of a call that tells nothing
 abbrev pub done : Result (Unit {0}) Fault → Result Answer Cause
-done (Ok x) = Ok answer.Done
-done (Err f) = Err (cause.House f)
-
-abbrev pub seen : Result (Reading Amount) Fault → Result Answer Cause
-seen (Ok r) = Ok (answer.Read r)
-seen (Err f) = Err (cause.House f)
-
-abbrev pub ended : Result Collected Fault → Result Answer Cause
-ended (Ok c) = Ok (answer.Collected c)
-ended (Err f) = Err (cause.House f)
+done r = told_by (λ _. answer.Done) r
 
 abbrev pub command_told : HouseModel Amount → Command → Result Answer Cause
 command_told m (command.OpenAmendment j) = done (open_told m j)
 command_told m (command.OpenInspection j) = done (open_told m j)
-command_told m (command.Read j r) = seen (read_told m j r)
+command_told m (command.Read j r) = told_by answer.Read (read_told m j r)
 command_told m (command.Write j r c u) = done (write_amount_told m j r c u)
 command_told m (command.HandIn j) = done (hand_in_told m j)
 command_told m (command.Deliver j o) = done (deliver_told m j o)
-command_told m (command.Collect j) = ended (collect_told m j)
+command_told m (command.Collect j) = told_by answer.Collected (collect_told m j)
 command_told m (command.Close j) = done (close_told m j)
 command_told m (command.Withdraw j) = done (withdraw_told m j)
 

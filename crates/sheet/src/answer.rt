@@ -1,6 +1,6 @@
 // What a command that is carried out tells, and its text.
 ghost use Rattle.std.specs.Prelude.{Some};
-ghost use Rattle.sheet.specs.Answers.{answer_text};
+ghost use Rattle.sheet.specs.Answers.{answer_text, amount_text};
 
 use house::reading::Reading;
 use ledger::job::Collected;
@@ -19,27 +19,27 @@ impl fmt::Display for Answer {
     ghost output = { λ a. Some (answer_text a) };
 
     fn fmt<W: fmt::Write>(&self, f: &mut fmt::Formatter<W>) -> fmt::Result {
-        let reading = match *self {
-            Answer::Done => return write!(f, ""),
-            Answer::Collected(Collected::Answered) => return write!(f, " answered"),
-            Answer::Collected(Collected::Dropped(mark)) => {
-                let number = mark.number();
-                return write!(f, " dropped {number}");
+        match *self {
+            Answer::Done => Ok(()),
+            Answer::Read(Reading::Blank) => write!(f, " 0"),
+            Answer::Read(Reading::Own(amount)) => write!(f, " own {}", Numbers(amount)),
+            Answer::Read(Reading::Version { number, value }) => {
+                write!(f, " {number} {}", Numbers(value))
             }
-            Answer::Read(reading) => reading,
-        };
-        match reading {
-            Reading::Blank => write!(f, " 0"),
-            Reading::Own(amount) => {
-                let currency = amount.currency().number();
-                let units = amount.units();
-                write!(f, " own {currency} {units}")
-            }
-            Reading::Version { number, value } => {
-                let currency = value.currency().number();
-                let units = value.units();
-                write!(f, " {number} {currency} {units}")
-            }
+            Answer::Collected(Collected::Answered) => write!(f, " answered"),
+            Answer::Collected(Collected::Dropped(mark)) => write!(f, " dropped {}", mark.number()),
         }
+    }
+}
+
+// An amount that is printed as its currency's number and its units.
+#[derive(Clone, Copy)]
+struct Numbers(Amount);
+
+impl fmt::Display for Numbers {
+    ghost output = { λ n. Some (amount_text n.0) };
+
+    fn fmt<W: fmt::Write>(&self, f: &mut fmt::Formatter<W>) -> fmt::Result {
+        write!(f, "{} {}", self.0.currency().number(), self.0.units())
     }
 }

@@ -2,7 +2,7 @@
 ghost use Rattle.std.specs.Prelude.{◌≡◌};
 ghost use Rattle.house.specs.Faults.{kept};
 ghost use Rattle.house.specs.Model.{model};
-ghost use Rattle.sheet.specs.Carrying.{write_amount_told, write_amount_after, command_told, command_after, line_told, line_after};
+ghost use Rattle.sheet.specs.Carrying.{command_told, command_after, line_told, line_after};
 
 use crate::answer::Answer;
 use crate::refusal::Cause;
@@ -14,21 +14,7 @@ use lines::parse::parse;
 use shelves::shelf::Shelf;
 use values::amount::Amount;
 
-// A write of an amount that is given by its two numbers; the amount is made first.
-fn write_amount<S: Shelf<Value = Amount>>(
-    house: &mut House<S>,
-    job: u64,
-    record: u64,
-    currency: u64,
-    units: i64,
-) -> Result<(), Fault>
-    ensures told { result ≡ write_amount_told (model S.items S.room house.old) job «record» currency units }
-    ensures after { model S.items S.room house.new ≡ write_amount_after (model S.items S.room house.old) job «record» currency units }
-{
-    let amount = Amount::from_numbers(currency, units)?;
-    house.write(job, record, amount)
-}
-
+// What the house tells of a command.
 pub(crate) fn carry_out<S: Shelf<Value = Amount>>(
     house: &mut House<S>,
     command: Command,
@@ -36,25 +22,30 @@ pub(crate) fn carry_out<S: Shelf<Value = Amount>>(
     ensures told { result ≡ command_told (model S.items S.room house.old) command }
     ensures after { model S.items S.room house.new ≡ command_after (model S.items S.room house.old) command }
 {
-    match command {
-        Command::OpenAmendment { job } => house.open(job, JobKind::Amendment)?,
-        Command::OpenInspection { job } => house.open(job, JobKind::Inspection)?,
-        Command::Read { job, record } => return Ok(Answer::Read(house.read(job, record)?)),
+    let done = |()| Answer::Done;
+    let answer = match command {
+        Command::OpenAmendment { job } => house.open(job, JobKind::Amendment).map(done),
+        Command::OpenInspection { job } => house.open(job, JobKind::Inspection).map(done),
+        Command::Read { job, record } => house.read(job, record).map(Answer::Read),
         Command::Write {
             job,
             record,
             currency,
             units,
-        } => write_amount(house, job, record, currency, units)?,
-        Command::Withdraw { job } => house.withdraw(job)?,
-        Command::HandIn { job } => house.hand_in(job)?,
-        Command::Deliver { job, office } => house.deliver(job, office)?,
-        Command::Collect { job } => return Ok(Answer::Collected(house.collect(job)?)),
-        Command::Close { job } => house.close(job)?,
-    }
-    Ok(Answer::Done)
+        } => {
+            let amount = Amount::from_numbers(currency, units).map_err(Fault::from)?;
+            house.write(job, record, amount).map(done)
+        }
+        Command::Withdraw { job } => house.withdraw(job).map(done),
+        Command::HandIn { job } => house.hand_in(job).map(done),
+        Command::Deliver { job, office } => house.deliver(job, office).map(done),
+        Command::Collect { job } => house.collect(job).map(Answer::Collected),
+        Command::Close { job } => house.close(job).map(done),
+    };
+    Ok(answer?)
 }
 
+// What is told of a line: of its command, if it writes one.
 pub(crate) fn carry_out_line<S: Shelf<Value = Amount>>(
     house: &mut House<S>,
     line: &[u8],
@@ -62,6 +53,5 @@ pub(crate) fn carry_out_line<S: Shelf<Value = Amount>>(
     ensures told { result ≡ line_told (model S.items S.room house.old) line.now }
     ensures after { model S.items S.room house.new ≡ line_after (model S.items S.room house.old) line.now }
 {
-    let command = parse(line)?;
-    carry_out(house, command)
+    carry_out(house, parse(line)?)
 }

@@ -25,8 +25,8 @@ fn write_answer(text: &mut String, line: usize, answer: Result<Answer, Refusal>)
     ensures { OnOk result (string_bytes text.new ≡ string_bytes text.old ++ line_text line answer) }
 {
     match answer {
-        Ok(told) => write!(text, "{line} ok{told}\n")?,
-        Err(refusal) => write!(text, "{refusal}\n")?,
+        Ok(told) => writeln!(text, "{line} ok{told}")?,
+        Err(refusal) => writeln!(text, "{refusal}")?,
     }
     Ok(())
 }
@@ -45,7 +45,7 @@ fn write_end(text: &mut String, jobs: &[u8]) -> fmt::Result
 {
     write!(text, "end")?;
     write_jobs(text, jobs)?;
-    write!(text, "\n")?;
+    writeln!(text)?;
     Ok(())
 }
 
@@ -57,14 +57,11 @@ fn write_lines<S: Shelf<Value = Amount>>(
 ) -> fmt::Result
     ensures { OnOk result (string_bytes text.new ≡ string_bytes text.old ++ lines_text 1 (model S.items S.room house.old) (lines_of (take most_input input.now))) }
 {
-    let mut n = 1;
-    for line in Lines::new(first_bytes(input)) {
+    for (i, line) in Lines::new(first_bytes(input)).enumerate() {
         let answer = carry_out_line(house, line);
-        write_answer(text, n, at_line(n, answer))?;
-        n += 1;
+        write_answer(text, i + 1, at_line(i + 1, answer))?;
     }
-    write_end(text, house.answered())?;
-    Ok(())
+    write_end(text, house.answered())
 }
 
 // What is printed of an input. An `Err` is want of memory for the text.

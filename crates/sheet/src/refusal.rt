@@ -60,10 +60,8 @@ impl fmt::Display for Refusal {
     ghost output = { λ r. Some (refusal_text r) };
 
     fn fmt<W: fmt::Write>(&self, f: &mut fmt::Formatter<W>) -> fmt::Result {
-        let line = self.line;
-        let layer = self.cause.layer();
-        let number = self.cause.number();
-        write!(f, "{line} no {layer} {number}")
+        let (layer, number) = (self.cause.layer(), self.cause.number());
+        write!(f, "{} no {layer} {number}", self.line)
     }
 }
 
@@ -71,8 +69,5 @@ impl fmt::Display for Refusal {
 pub(crate) fn at_line<T>(line: usize, answer: Result<T, Cause>) -> Result<T, Refusal>
     ensures { result ≡ numbered line answer }
 {
-    match answer {
-        Ok(told) => Ok(told),
-        Err(cause) => Err(Refusal { line, cause }),
-    }
+    answer.map_err(|cause| Refusal { line, cause })
 }

@@ -1,7 +1,5 @@
-use Rattle.std.proofs.Common.{sym}
-use Rattle.std.proofs.lemmas.List.{take_all}
-use Rattle.lines.specs.Cutting.{most_input}
+use Rattle.lines.proofs.Cuts.{first_or_all}
 use Rattle.lines.proofs.cut.first_bytes.Goals as goal
 
-pub returns-else-input-gt-MOST_INPUT : goal.returns-else-input-gt-MOST_INPUT
-returns-else-input-gt-MOST_INPUT c = sym (take_all most_input c.args.input.now c.if-input-gt-MOST_INPUT.false)
+pub returns : goal.returns
+returns c = first_or_all c.args.input _ _ c.get.ensures.lookup c.unwrap_or.ensures

@@ -1,16 +1,13 @@
-use Rattle.std.proofs.Common.{◌∙◌, arith}
+use Rattle.std.proofs.Common.{◌+◌, ◌∙◌}
 use Rattle.house.specs.Model.{model}
 use Rattle.sheet.proofs.Texts.{line_written, end_written}
 use Rattle.sheet.proofs.day.write_lines.Goals as goal
 
-pub loop-line-preserved : goal.loop-line-preserved
-loop-line-preserved g c = (
-  omega (arith, (c.in-Some.ensures.goes.on tt).2),
-  line_written _ _ c.loop-line.n (model g.S.Shelf.items g.S.Shelf.room c.loop-line.house) _ _ _ _ _ _ c.in-Some.ensures.steps c.carry_out_line-answer.ensures.told c.at_line.ensures c.carry_out_line-answer.ensures.after c.in_ok-write_answer.ensures
-      ∙ c.loop-line.invariant.1,
-)
+pub loop-i-preserved : goal.loop-i-preserved
+loop-i-preserved g c =
+    line_written _ _ c.in-Some.i c.loop-i.i-iterator.count _ (model g.S.Shelf.items g.S.Shelf.room c.loop-i.house) _ _ _ _ _ _ c.in-Some.ensures.steps c.carry_out_line-answer.ensures.told c.at_line.ensures c.carry_out_line-answer.ensures.after c.in_ok-write_answer.ensures
+    ∙ c.loop-i.invariant
 
 pub returns : goal.returns
 returns g c =
-    end_written _ _ c.loop-line.n (model g.S.Shelf.items g.S.Shelf.room c.loop-line.house) _ _ c.in-None.ensures.steps c.answered.ensures c.in_ok-write_end.ensures
-    ∙ c.loop-line.invariant.1
+    end_written c.write_end.result _ _ _ (c.loop-i.i-iterator.count + 1) (model g.S.Shelf.items g.S.Shelf.room c.loop-i.house) _ _ c.in-None.ensures.steps.0 c.answered.ensures c.loop-i.invariant c.write_end.ensures
