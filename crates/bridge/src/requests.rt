@@ -7,6 +7,7 @@
 // | 16 to 23 | the job, little-endian                                       |
 // | 24 to 31 | the record, the office, the size of a buffer, or an index    |
 ghost use Rattle.std.specs.Prelude.{◌≤◌, ◌+◌};
+ghost use Rattle.bridge.specs.declared.requests.TheConstants.{REQUEST};
 
 use house::call::Call;
 use house::fault::Fault;
@@ -35,7 +36,7 @@ pub enum Request<V> {
 
 // The number in the eight bytes from a start, little-endian.
 fn number_at(bytes: &[u8; REQUEST], start: usize) -> u64
-    requires { start + 8 ≤ 32 }
+    requires { start + 8 ≤ REQUEST }
 {
     u64::from_le_bytes(array::from_fn(|i| bytes[start + i]))
 }

@@ -3,6 +3,7 @@
 // C interface: each kind of value and each shelf has exported functions of its own, since a C function has no type parameter.
 ghost use Rattle.std.specs.Prelude.{◌*◌, ◌^◌, ◌<◌};
 ghost use Rattle.std.specs.Mem.{type_size};
+ghost use Rattle.bridge.specs.declared.run.TheConstants.{CELLS};
 
 use crate::answers::{ANSWER, Answer};
 use crate::requests::{REQUEST, Request, decode_request};
@@ -117,22 +118,11 @@ fn in_cells<V: Value, R, F: FnOnce(&mut House<CellShelf<'_, V>>) -> R>(
     action: F,
 ) -> R
     requires callable { F.IsAlwaysCallable action }
-    requires size { 4200 * type_size V.Cell.row < 2 ^ 63 }
+    requires size { CELLS * type_size V.Cell.row < 2 ^ 63 }
 {
     let mut cells = [V::spare().to_cell(); CELLS];
     let shelf = CellShelf::new(front(&mut cells, capacity));
     action(&mut House::new(offices, shelf))
-}
-
-// What an action gives on a newly built house over the bytes.
-fn in_bytes<V: Value, R, F: FnOnce(&mut House<ByteShelf<'_, V>>) -> R>(
-    offices: u64,
-    memory: &mut [u8],
-    action: F,
-) -> R
-    requires { F.IsAlwaysCallable action }
-{
-    action(&mut House::new(offices, ByteShelf::new(memory)))
 }
 
 // Builds a house of amounts over so many cells, and does all requests in it.
@@ -172,9 +162,8 @@ pub extern "C" fn bridge_run_amount_bytes(
     answers: &mut [u8],
     buffer: &mut [u8],
 ) {
-    in_bytes::<Amount, _, _>(offices, memory, |house| {
-        run(house, requests, answers, buffer)
-    })
+    let shelf = ByteShelf::<Amount>::new(memory);
+    run(&mut House::new(offices, shelf), requests, answers, buffer)
 }
 
 // Builds a house of standings over the bytes, and does all requests in it.
@@ -186,9 +175,8 @@ pub extern "C" fn bridge_run_standing_bytes(
     answers: &mut [u8],
     buffer: &mut [u8],
 ) {
-    in_bytes::<Standing, _, _>(offices, memory, |house| {
-        run(house, requests, answers, buffer)
-    })
+    let shelf = ByteShelf::<Standing>::new(memory);
+    run(&mut House::new(offices, shelf), requests, answers, buffer)
 }
 
 // Builds a house of amounts over so many cells, does the first requests once and then others again and again; gives a sum over the answers.
@@ -216,9 +204,8 @@ pub extern "C" fn bridge_repeat_amount_bytes(
     times: u64,
     buffer: &mut [u8],
 ) -> u64 {
-    in_bytes::<Amount, _, _>(offices, memory, |house| {
-        repeat(house, first, again, times, buffer)
-    })
+    let shelf = ByteShelf::<Amount>::new(memory);
+    repeat(&mut House::new(offices, shelf), first, again, times, buffer)
 }
 
 // How many bytes a house of amounts over cells takes, its shelf's lent memory not counted.
