@@ -23,7 +23,7 @@ const VALUE: usize = 16;
 
 // What is told. Its byte is the place in this list, from 0.
 #[derive(Clone, Copy, PartialEq, Eq, Debug, Default)]
-pub enum Kind {
+enum Kind {
     #[default]
     NothingMore,
     Blank,

@@ -22,8 +22,6 @@ pub const REQUEST: usize = 32;
 #[derive(Clone, Copy)]
 pub enum Request<V> {
     Call(Call<V>),
-    // the archive, into the first bytes of a buffer
-    Archive { size: u64 },
     JobState { job: u64 },
     NewestVersion { record: u64 },
     AnsweredCount,
@@ -82,7 +80,7 @@ pub fn decode_request<V: Value>(bytes: &[u8; REQUEST]) -> Result<Request<V>, Fau
         6 => Request::Call(Call::Collect { job }),
         7 => Request::Call(Call::Close { job }),
         8 => Request::Call(Call::Withdraw { job }),
-        9 => Request::Archive { size: number },
+        9 => Request::Call(Call::Archive { room: number }),
         10 => Request::JobState { job },
         11 => Request::NewestVersion { record: number },
         12 => Request::AnsweredCount,

@@ -47,9 +47,12 @@ fn request_told<S: Shelf>(
     buffer: &mut [u8],
 ) -> Result<Answer, Fault> {
     Ok(match decode_request::<S::Value>(request)? {
-        Request::Call(call) => perform(house, call, &mut [])?.into(),
-        Request::Archive { size } => {
-            perform(house, Call::Archive { room: size }, front(buffer, size))?.into()
+        Request::Call(call) => {
+            let room = match call {
+                Call::Archive { room } => room,
+                _ => 0,
+            };
+            perform(house, call, front(buffer, room))?.into()
         }
         Request::JobState { job } => house.job_state(job)?.into(),
         Request::NewestVersion { record } => u64::from(house.newest_version(record)?).into(),
