@@ -42,7 +42,7 @@ pub struct Answer {
     refusal: Option<Fault>,
     kind: Kind,
     // the version or the mark
-    small: u8,
+    version_or_mark: u8,
     // the size of the archive, written or needed, or what was asked
     number: u64,
     // the bytes of the value, and zeros
@@ -72,7 +72,7 @@ impl Answer {
         let mut bytes = [0; ANSWER];
         bytes[0] = self.refusal.map_or(0, |fault| fault.number());
         bytes[1] = self.kind as u8;
-        bytes[2] = self.small;
+        bytes[2] = self.version_or_mark;
         bytes[8..16].copy_from_slice(&self.number.to_le_bytes());
         bytes[16..].copy_from_slice(&self.value);
         bytes
@@ -108,12 +108,12 @@ impl From<u64> for Answer {
 // The state of a job, and the mark of a dropped one.
 impl From<State> for Answer {
     fn from(state: State) -> Answer {
-        let small = match state {
+        let version_or_mark = match state {
             State::Dropped(mark) => mark.number(),
             _ => 0,
         };
         Answer {
-            small,
+            version_or_mark,
             ..Answer::from(u64::from(state.number()))
         }
     }
@@ -134,7 +134,7 @@ impl<V: Value> From<Reading<V>> for Answer {
             },
             Reading::Version { number, value } => Answer {
                 kind: Kind::Version,
-                small: number,
+                version_or_mark: number,
                 value: value_bytes(value),
                 ..Answer::default()
             },
@@ -156,7 +156,7 @@ impl<V: Value> From<Told<V>> for Answer {
             },
             Told::Dropped(mark) => Answer {
                 kind: Kind::Dropped,
-                small: mark.number(),
+                version_or_mark: mark.number(),
                 ..Answer::default()
             },
             Told::Archived { size } => Answer {

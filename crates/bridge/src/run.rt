@@ -29,6 +29,7 @@ fn front<T>(slice: &mut [T], count: u64) -> &mut [T] {
 }
 
 // Opens an inspection, reads one record by its slip, and closes it; tells what was read.
+// The program `house_demo` has the same function. One of the house itself would be no plainer: it would promise three calls in one clause.
 fn inspect<S: Shelf>(
     house: &mut House<S>,
     job: u64,
