@@ -18,70 +18,150 @@ use values::value::Value;
 // How many bytes an answer has.
 pub const ANSWER: usize = 32;
 
-// An answer that has no value.
-fn plain(refusal: u8, told: u8, small: u8, number: u64) -> [u8; ANSWER] {
-    let mut answer = [0; ANSWER];
-    answer[0] = refusal;
-    answer[1] = told;
-    answer[2] = small;
-    answer[8..16].copy_from_slice(&number.to_le_bytes());
-    answer
+// How many bytes of an answer there are for a value.
+const VALUE: usize = 16;
+
+// What is told. Its byte is the place in this list, from 0.
+#[derive(Clone, Copy, PartialEq, Eq, Debug, Default)]
+enum Kind {
+    #[default]
+    NothingMore,
+    Blank,
+    Own,
+    Version,
+    Answered,
+    Dropped,
+    Archive,
+    Asked,
+    Unknown,
 }
 
-// An answer that has a value.
-fn with_value<V: Value>(told: u8, version: u8, value: V) -> [u8; ANSWER] {
-    let mut answer = plain(0, told, version, 0);
-    let width = V::byte_width();
-    let rest = &mut answer[16..];
-    if width <= rest.len() {
-        let _ = value.encode(&mut rest[..width]);
+// What was told. The default is an accepted call with nothing more to tell.
+#[derive(Clone, Copy, Debug, Default)]
+pub struct Answer {
+    refusal: Option<Fault>,
+    kind: Kind,
+    // the version or the mark
+    version_or_mark: u8,
+    // the size of the archive, written or needed, or what was asked
+    number: u64,
+    // the bytes of the value, and zeros
+    value: [u8; VALUE],
+}
+
+// The bytes of a value, and zeros.
+fn value_bytes<V: Value>(value: V) -> [u8; VALUE] {
+    let mut bytes = [0; VALUE];
+    if let Some(place) = bytes.get_mut(..V::byte_width()) {
+        let _ = value.encode(place);
     }
-    answer
+    bytes
+}
+
+impl Answer {
+    // The answer to a request that no call or question has.
+    pub fn unknown() -> Answer {
+        Answer {
+            kind: Kind::Unknown,
+            ..Answer::default()
+        }
+    }
+
+    // The answer in bytes.
+    pub fn to_bytes(&self) -> [u8; ANSWER] {
+        let mut bytes = [0; ANSWER];
+        bytes[0] = self.refusal.map_or(0, |fault| fault.number());
+        bytes[1] = self.kind as u8;
+        bytes[2] = self.version_or_mark;
+        bytes[8..16].copy_from_slice(&self.number.to_le_bytes());
+        bytes[16..].copy_from_slice(&self.value);
+        bytes
+    }
 }
 
 // A refusal; that of an archive tells the size that is needed.
-pub fn refused(fault: Fault) -> [u8; ANSWER] {
-    let needed = match fault {
-        Fault::ShortBuffer { needed } => needed,
-        _ => 0,
-    };
-    plain(fault.number(), 0, 0, needed)
+impl From<Fault> for Answer {
+    fn from(fault: Fault) -> Answer {
+        let number = match fault {
+            Fault::ShortBuffer { needed } => needed,
+            _ => 0,
+        };
+        Answer {
+            refusal: Some(fault),
+            number,
+            ..Answer::default()
+        }
+    }
 }
 
-// What a question told.
-pub fn asked(number: u64) -> [u8; ANSWER] {
-    plain(0, 7, 0, number)
+// The number that a question told.
+impl From<u64> for Answer {
+    fn from(number: u64) -> Answer {
+        Answer {
+            kind: Kind::Asked,
+            number,
+            ..Answer::default()
+        }
+    }
 }
 
 // The state of a job, and the mark of a dropped one.
-pub fn state_asked(state: State) -> [u8; ANSWER] {
-    let mark = match state {
-        State::Dropped(mark) => mark.number(),
-        _ => 0,
-    };
-    plain(0, 7, mark, state.number() as u64)
-}
-
-pub fn unknown() -> [u8; ANSWER] {
-    plain(0, 8, 0, 0)
-}
-
-// What a call told.
-pub fn told<V: Value>(told: Told<V>) -> [u8; ANSWER] {
-    match told {
-        Told::Done => plain(0, 0, 0, 0),
-        Told::Read(reading) => read(reading),
-        Told::Collected(Collected::Answered) => plain(0, 4, 0, 0),
-        Told::Collected(Collected::Dropped(mark)) => plain(0, 5, mark.number(), 0),
-        Told::Archived { size } => plain(0, 6, 0, size),
+impl From<State> for Answer {
+    fn from(state: State) -> Answer {
+        let version_or_mark = match state {
+            State::Dropped(mark) => mark.number(),
+            _ => 0,
+        };
+        Answer {
+            version_or_mark,
+            ..Answer::from(u64::from(state.number()))
+        }
     }
 }
 
 // What a read told.
-pub fn read<V: Value>(reading: Reading<V>) -> [u8; ANSWER] {
-    match reading {
-        Reading::Blank => plain(0, 1, 0, 0),
-        Reading::Own(value) => with_value(2, 0, value),
-        Reading::Version { number, value } => with_value(3, number, value),
+impl<V: Value> From<Reading<V>> for Answer {
+    fn from(reading: Reading<V>) -> Answer {
+        match reading {
+            Reading::Blank => Answer {
+                kind: Kind::Blank,
+                ..Answer::default()
+            },
+            Reading::Own(value) => Answer {
+                kind: Kind::Own,
+                value: value_bytes(value),
+                ..Answer::default()
+            },
+            Reading::Version { number, value } => Answer {
+                kind: Kind::Version,
+                version_or_mark: number,
+                value: value_bytes(value),
+                ..Answer::default()
+            },
+        }
+    }
+}
+
+// What a call told.
+impl<V: Value> From<Told<V>> for Answer {
+    fn from(told: Told<V>) -> Answer {
+        match told {
+            Told::Done => Answer::default(),
+            Told::Read(reading) => Answer::from(reading),
+            Told::Collected(Collected::Answered) => Answer {
+                kind: Kind::Answered,
+                ..Answer::default()
+            },
+            Told::Collected(Collected::Dropped(mark)) => Answer {
+                kind: Kind::Dropped,
+                version_or_mark: mark.number(),
+                ..Answer::default()
+            },
+            Told::Archived { size } => Answer {
+                kind: Kind::Archive,
+                number: size,
+                ..Answer::default()
+            },
+        }
     }
 }

@@ -6,9 +6,13 @@
 // | 11 to 15 | unused                                                       |
 // | 16 to 23 | the job, little-endian                                       |
 // | 24 to 31 | the record, the office, the size of a buffer, or an index    |
+ghost use Rattle.std.specs.Prelude.{◌≤◌, ◌+◌};
+ghost use Rattle.bridge.specs.declared.requests.TheConstants.{REQUEST};
+
 use house::call::Call;
 use house::fault::Fault;
 use ledger::job::JobKind;
+use std::array;
 use values::value::Value;
 
 // How many bytes a request has.
@@ -18,8 +22,6 @@ pub const REQUEST: usize = 32;
 #[derive(Clone, Copy)]
 pub enum Request<V> {
     Call(Call<V>),
-    // the archive, into the first bytes of a buffer
-    Archive { size: u64 },
     JobState { job: u64 },
     NewestVersion { record: u64 },
     AnsweredCount,
@@ -30,41 +32,27 @@ pub enum Request<V> {
     Unknown,
 }
 
-fn job_of(bytes: &[u8; REQUEST]) -> u64 {
-    u64::from_le_bytes([
-        bytes[16], bytes[17], bytes[18], bytes[19], bytes[20], bytes[21], bytes[22], bytes[23],
-    ])
+// The number in the eight bytes from a start, little-endian.
+fn number_at(bytes: &[u8; REQUEST], start: usize) -> u64
+    requires { start + 8 ≤ REQUEST }
+{
+    u64::from_le_bytes(array::from_fn(|i| bytes[start + i]))
 }
 
-// The record, the office, the size or the index.
-fn number_of(bytes: &[u8; REQUEST]) -> u64 {
-    u64::from_le_bytes([
-        bytes[24], bytes[25], bytes[26], bytes[27], bytes[28], bytes[29], bytes[30], bytes[31],
-    ])
-}
-
-// A write; refused (16) if the bytes of its value are none of the kind.
-fn write_of<V: Value>(bytes: &[u8; REQUEST]) -> Result<Request<V>, Fault> {
-    let width = V::byte_width();
-    let rest = &bytes[1..];
-    if width > rest.len() {
-        return Ok(Request::Unknown);
-    }
-    match V::decode(&rest[..width]) {
-        Ok(value) => Ok(Request::Call(Call::Write {
-            job: job_of(bytes),
-            record: number_of(bytes),
-            value,
-        })),
-        Err(fault) => Err(Fault::Value(fault)),
-    }
+// The value of a write, if there are bytes enough for one of the kind; refused (16) if these are none of the kind.
+fn value_of<V: Value>(bytes: &[u8; REQUEST]) -> Result<Option<V>, Fault> {
+    let Some(encoded) = bytes[1..].get(..V::byte_width()) else {
+        return Ok(None);
+    };
+    Ok(Some(V::decode(encoded)?))
 }
 
 // The call or question that the bytes stand for; refused (16) if it writes what is no value.
+// C interface: the first byte's number stands for a call or question.
 pub fn decode_request<V: Value>(bytes: &[u8; REQUEST]) -> Result<Request<V>, Fault> {
-    let job = job_of(bytes);
-    let number = number_of(bytes);
-    let request = match bytes[0] {
+    let job = number_at(bytes, 16);
+    let number = number_at(bytes, 24);
+    Ok(match bytes[0] {
         0 => Request::Call(Call::Open {
             job,
             kind: JobKind::Amendment,
@@ -77,7 +65,13 @@ pub fn decode_request<V: Value>(bytes: &[u8; REQUEST]) -> Result<Request<V>, Fau
             job,
             record: number,
         }),
-        3 => return write_of(bytes),
+        3 => value_of(bytes)?.map_or(Request::Unknown, |value| {
+            Request::Call(Call::Write {
+                job,
+                record: number,
+                value,
+            })
+        }),
         4 => Request::Call(Call::HandIn { job }),
         5 => Request::Call(Call::Deliver {
             job,
@@ -86,7 +80,7 @@ pub fn decode_request<V: Value>(bytes: &[u8; REQUEST]) -> Result<Request<V>, Fau
         6 => Request::Call(Call::Collect { job }),
         7 => Request::Call(Call::Close { job }),
         8 => Request::Call(Call::Withdraw { job }),
-        9 => Request::Archive { size: number },
+        9 => Request::Call(Call::Archive { room: number }),
         10 => Request::JobState { job },
         11 => Request::NewestVersion { record: number },
         12 => Request::AnsweredCount,
@@ -96,6 +90,5 @@ pub fn decode_request<V: Value>(bytes: &[u8; REQUEST]) -> Result<Request<V>, Fau
             record: number,
         },
         _ => Request::Unknown,
-    };
-    Ok(request)
+    })
 }

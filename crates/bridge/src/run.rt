@@ -1,5 +1,11 @@
 // Sequences of requests in a newly built house, over either shelf and either kind of value.
-use crate::answers::{ANSWER, asked, read, refused, state_asked, told, unknown};
+//
+// C interface: each kind of value and each shelf has exported functions of its own, since a C function has no type parameter.
+ghost use Rattle.std.specs.Prelude.{◌*◌, ◌^◌, ◌<◌};
+ghost use Rattle.std.specs.Mem.{type_size};
+ghost use Rattle.bridge.specs.declared.run.TheConstants.{CELLS};
+
+use crate::answers::{ANSWER, Answer};
 use crate::requests::{REQUEST, Request, decode_request};
 use house::call::Call;
 use house::fault::Fault;
@@ -9,31 +15,21 @@ use law::perform::perform;
 use shelves::byte_shelf::ByteShelf;
 use shelves::cell_shelf::CellShelf;
 use shelves::shelf::Shelf;
-use values::amount::{Amount, AmountCell};
-use values::standing::{Standing, StandingCell};
+use values::amount::Amount;
+use values::standing::Standing;
+use values::value::Value;
 
 // More cells than a shelf uses, so that its limit can be met.
 const CELLS: usize = 4200;
 
-// The first bytes of a buffer, or all if there are not so many.
-fn front(buffer: &mut [u8], size: u64) -> &mut [u8] {
-    let len = buffer.len();
-    if size < len as u64 {
-        &mut buffer[..size as usize]
-    } else {
-        buffer
-    }
-}
-
-// Does a call through `perform`.
-fn call<S: Shelf>(house: &mut House<S>, call: Call<S::Value>, buffer: &mut [u8]) -> [u8; ANSWER] {
-    match perform(house, call, buffer) {
-        Ok(answer) => told(answer),
-        Err(fault) => refused(fault),
-    }
+// The first elements of a slice, or all if there are not so many.
+fn front<T>(slice: &mut [T], count: u64) -> &mut [T] {
+    let count = count.min(slice.len() as u64);
+    &mut slice[..count as usize]
 }
 
 // Opens an inspection, reads one record by its slip, and closes it; tells what was read.
+// The program `house_demo` has the same function. One of the house itself would be no plainer: it would promise three calls in one clause.
 fn inspect<S: Shelf>(
     house: &mut House<S>,
     job: u64,
@@ -45,70 +41,64 @@ fn inspect<S: Shelf>(
     reading
 }
 
-// Does one request and gives its answer. An archive goes into the buffer.
+// Does one request and gives its answer, or why it is refused. An archive goes into the buffer.
+fn request_told<S: Shelf>(
+    house: &mut House<S>,
+    request: &[u8; REQUEST],
+    buffer: &mut [u8],
+) -> Result<Answer, Fault> {
+    Ok(match decode_request::<S::Value>(request)? {
+        Request::Call(call) => {
+            let room = match call {
+                Call::Archive { room } => room,
+                _ => 0,
+            };
+            perform(house, call, front(buffer, room))?.into()
+        }
+        Request::JobState { job } => house.job_state(job)?.into(),
+        Request::NewestVersion { record } => u64::from(house.newest_version(record)?).into(),
+        Request::AnsweredCount => house.answered_count().into(),
+        Request::AnsweredAt { n } => u64::from(house.answered_at(n)?).into(),
+        Request::Inspect { job, record } => inspect(house, job, record)?.into(),
+        Request::Unknown => Answer::unknown(),
+    })
+}
+
+// Does one request and gives the bytes of its answer.
 fn answer<S: Shelf>(
     house: &mut House<S>,
     request: &[u8; REQUEST],
     buffer: &mut [u8],
 ) -> [u8; ANSWER] {
-    match decode_request::<S::Value>(request) {
-        Err(fault) => refused(fault),
-        Ok(Request::Call(it)) => call(house, it, &mut []),
-        Ok(Request::Archive { size }) => {
-            call(house, Call::Archive { room: size }, front(buffer, size))
-        }
-        Ok(Request::JobState { job }) => match house.job_state(job) {
-            Ok(state) => state_asked(state),
-            Err(fault) => refused(fault),
-        },
-        Ok(Request::NewestVersion { record }) => match house.newest_version(record) {
-            Ok(version) => asked(version as u64),
-            Err(fault) => refused(fault),
-        },
-        Ok(Request::AnsweredCount) => asked(house.answered_count()),
-        Ok(Request::AnsweredAt { n }) => match house.answered_at(n) {
-            Ok(job) => asked(job as u64),
-            Err(fault) => refused(fault),
-        },
-        Ok(Request::Inspect { job, record }) => match inspect(house, job, record) {
-            Ok(reading) => read(reading),
-            Err(fault) => refused(fault),
-        },
-        Ok(Request::Unknown) => unknown(),
-    }
+    request_told(house, request, buffer)
+        .unwrap_or_else(Answer::from)
+        .to_bytes()
 }
 
-// Puts the answer of the request with an index at its place, if there is room.
-fn put_answer(answers: &mut [u8], index: usize, answer: [u8; ANSWER]) {
-    let places = answers.len() / ANSWER;
-    if index < places {
-        let start = index * ANSWER;
-        answers[start..start + ANSWER].copy_from_slice(&answer);
-    }
-}
-
-// Does all requests, and puts an answer for each.
+// Does all requests, and puts an answer for each, as far as there is room.
 fn run<S: Shelf>(house: &mut House<S>, requests: &[u8], answers: &mut [u8], buffer: &mut [u8]) {
     let (requests, _) = requests.as_chunks::<REQUEST>();
-    for (index, request) in requests.iter().enumerate() {
-        put_answer(answers, index, answer(house, request, buffer));
+    let (places, _) = answers.as_chunks_mut::<ANSWER>();
+    let mut places = places.iter_mut();
+    for request in requests {
+        let told = answer(house, request, buffer);
+        if let Some(place) = places.next() {
+            *place = told;
+        }
     }
 }
 
 // Does all requests and gives a sum over the answers, so that none of the work can be left out.
 fn sum<S: Shelf>(house: &mut House<S>, requests: &[u8], buffer: &mut [u8]) -> u64 {
     let (requests, _) = requests.as_chunks::<REQUEST>();
-    let mut sum: u64 = 0;
-    for request in requests {
+    requests.iter().fold(0, |sum: u64, request| {
         let told = answer(house, request, buffer);
-        sum = sum
-            .wrapping_mul(31)
-            .wrapping_add(told[0] as u64)
-            .wrapping_add(told[1] as u64)
-            .wrapping_add(told[2] as u64)
-            .wrapping_add(told[18] as u64);
-    }
-    sum
+        [told[0], told[1], told[2], told[18]]
+            .iter()
+            .fold(sum.wrapping_mul(31), |sum, byte| {
+                sum.wrapping_add(u64::from(*byte))
+            })
+    })
 }
 
 // Does the first requests once, and then others again and again; gives a sum over the answers.
@@ -119,35 +109,24 @@ fn repeat<S: Shelf>(
     times: u64,
     buffer: &mut [u8],
 ) -> u64 {
-    let mut total = sum(house, first, buffer);
-    for _ in 0..times {
-        total = total.wrapping_add(sum(house, again, buffer));
-    }
-    total
+    let start = sum(house, first, buffer);
+    (0..times).fold(start, |total, _| {
+        total.wrapping_add(sum(house, again, buffer))
+    })
 }
 
-fn amount_cells() -> [AmountCell; CELLS] {
-    [AmountCell {
-        currency: 0,
-        units: 0,
-    }; CELLS]
-}
-
-fn standing_cells() -> [StandingCell; CELLS] {
-    [StandingCell {
-        state: 0,
-        number: 0,
-    }; CELLS]
-}
-
-// The first cells, or all if there are not so many.
-fn lent<T>(cells: &mut [T], capacity: u64) -> &mut [T] {
-    let len = cells.len();
-    if capacity < len as u64 {
-        &mut cells[..capacity as usize]
-    } else {
-        cells
-    }
+// What an action gives on a newly built house over so many cells.
+fn in_cells<V: Value, R, F: FnOnce(&mut House<CellShelf<'_, V>>) -> R>(
+    offices: u64,
+    capacity: u64,
+    action: F,
+) -> R
+    requires callable { F.IsAlwaysCallable action }
+    requires size { CELLS * type_size V.Cell.row < 2 ^ 63 }
+{
+    let mut cells = [V::spare().to_cell(); CELLS];
+    let shelf = CellShelf::new(front(&mut cells, capacity));
+    action(&mut House::new(offices, shelf))
 }
 
 // Builds a house of amounts over so many cells, and does all requests in it.
@@ -159,12 +138,9 @@ pub extern "C" fn bridge_run_amount_cells(
     answers: &mut [u8],
     buffer: &mut [u8],
 ) {
-    let mut cells = amount_cells();
-    let mut house = House::new(
-        offices,
-        CellShelf::<Amount>::new(lent(&mut cells[..], capacity)),
-    );
-    run(&mut house, requests, answers, buffer);
+    in_cells::<Amount, _, _>(offices, capacity, |house| {
+        run(house, requests, answers, buffer)
+    })
 }
 
 // Builds a house of standings over so many cells, and does all requests in it.
@@ -176,12 +152,9 @@ pub extern "C" fn bridge_run_standing_cells(
     answers: &mut [u8],
     buffer: &mut [u8],
 ) {
-    let mut cells = standing_cells();
-    let mut house = House::new(
-        offices,
-        CellShelf::<Standing>::new(lent(&mut cells[..], capacity)),
-    );
-    run(&mut house, requests, answers, buffer);
+    in_cells::<Standing, _, _>(offices, capacity, |house| {
+        run(house, requests, answers, buffer)
+    })
 }
 
 // Builds a house of amounts over the bytes, and does all requests in it.
@@ -193,8 +166,8 @@ pub extern "C" fn bridge_run_amount_bytes(
     answers: &mut [u8],
     buffer: &mut [u8],
 ) {
-    let mut house = House::new(offices, ByteShelf::<Amount>::new(memory));
-    run(&mut house, requests, answers, buffer);
+    let shelf = ByteShelf::<Amount>::new(memory);
+    run(&mut House::new(offices, shelf), requests, answers, buffer)
 }
 
 // Builds a house of standings over the bytes, and does all requests in it.
@@ -206,8 +179,8 @@ pub extern "C" fn bridge_run_standing_bytes(
     answers: &mut [u8],
     buffer: &mut [u8],
 ) {
-    let mut house = House::new(offices, ByteShelf::<Standing>::new(memory));
-    run(&mut house, requests, answers, buffer);
+    let shelf = ByteShelf::<Standing>::new(memory);
+    run(&mut House::new(offices, shelf), requests, answers, buffer)
 }
 
 // Builds a house of amounts over so many cells, does the first requests once and then others again and again; gives a sum over the answers.
@@ -220,12 +193,9 @@ pub extern "C" fn bridge_repeat_amount_cells(
     times: u64,
     buffer: &mut [u8],
 ) -> u64 {
-    let mut cells = amount_cells();
-    let mut house = House::new(
-        offices,
-        CellShelf::<Amount>::new(lent(&mut cells[..], capacity)),
-    );
-    repeat(&mut house, first, again, times, buffer)
+    in_cells::<Amount, _, _>(offices, capacity, |house| {
+        repeat(house, first, again, times, buffer)
+    })
 }
 
 // The same over bytes.
@@ -238,8 +208,8 @@ pub extern "C" fn bridge_repeat_amount_bytes(
     times: u64,
     buffer: &mut [u8],
 ) -> u64 {
-    let mut house = House::new(offices, ByteShelf::<Amount>::new(memory));
-    repeat(&mut house, first, again, times, buffer)
+    let shelf = ByteShelf::<Amount>::new(memory);
+    repeat(&mut House::new(offices, shelf), first, again, times, buffer)
 }
 
 // How many bytes a house of amounts over cells takes, its shelf's lent memory not counted.

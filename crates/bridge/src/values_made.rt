@@ -1,4 +1,5 @@
 // How values are made and encoded. Each function gives 0 and writes the bytes of the value to `out`, or gives the refusal's number.
+// C interface: 0 stands for no refusal.
 use values::amount::{Amount, AmountCell};
 use values::fault::ValueFault;
 use values::standing::{Reason, Standing, StandingCell};
@@ -6,13 +7,13 @@ use values::value::Value;
 
 // Encodes a value, if `out` has exactly its width.
 fn encoded<V: Value>(made: Result<V, ValueFault>, out: &mut [u8]) -> u8 {
-    match made {
-        Ok(value) => {
+    made.map_or_else(
+        |fault| fault.number(),
+        |value| {
             let _ = value.encode(out);
             0
-        }
-        Err(fault) => fault.number(),
-    }
+        },
+    )
 }
 
 // The amount whose bytes these are.
@@ -36,10 +37,7 @@ pub extern "C" fn bridge_amount_from_numbers(currency: u64, units: i64, out: &mu
 // Goods that are stopped for the reason with the number.
 #[unsafe(no_mangle)]
 pub extern "C" fn bridge_stopped(reason: u64, out: &mut [u8]) -> u8 {
-    match Reason::new(reason) {
-        Ok(reason) => encoded(Ok(Standing::Stopped(reason)), out),
-        Err(fault) => fault.number(),
-    }
+    encoded(Reason::new(reason).map(Standing::Stopped), out)
 }
 
 // The amount in a cell.

@@ -4,16 +4,20 @@
 use house::fault::Fault;
 use house::house::House;
 use house::reading::Reading;
-use ledger::job::{Collected, JobKind};
+use ledger::job::{Collected, JobKind, Mark};
 use shelves::cell_shelf::CellShelf;
 use shelves::shelf::Shelf;
-use std::io;
-use values::standing::{Day, Standing, StandingCell};
+use std::{fmt, io};
+use values::standing::{Day, Standing};
 use values::value::Value;
 
 const OFFICES: u64 = 8;
 // how many messages pass between a job and an office: prepare, vote and decision
 const MESSAGES: u8 = 3;
+// the record that fills up, which belongs to office 5
+const RECORD: u64 = 13;
+// how many jobs write it, which is one more than it can have versions
+const JOBS: u64 = 33;
 
 // Writes one record in a job of its own, and takes the job to its end.
 fn commit<S: Shelf>(
@@ -39,74 +43,93 @@ fn inspect<S: Shelf>(
 ) -> Result<Reading<S::Value>, Fault> {
     let slip = house.open_slip(job)?;
     let reading = house.read_slip(&slip, record);
-    let closed = house.close_slip(slip);
-    closed?;
+    house.close_slip(slip)?;
     reading
 }
 
-// The number of the refusal of a close by slip, after the inspection was closed by its number.
-fn refusal_of_second_close<S: Shelf>(house: &mut House<S>, job: u64) -> Result<u8, Fault> {
+// The refusal of a close by slip, after the inspection was closed by its number.
+fn refusal_of_second_close<S: Shelf>(
+    house: &mut House<S>,
+    job: u64,
+) -> Result<Option<Fault>, Fault> {
     let slip = house.open_slip(job)?;
     let first = house.close(slip.job());
     let second = house.close_slip(slip);
     first?;
-    match second {
-        Ok(()) => Ok(0),
-        Err(fault) => Ok(fault.number()),
-    }
+    Ok(second.err())
 }
 
-// The mark of a dropped job, or 0.
-fn mark_of(collected: Collected) -> u8 {
-    match collected {
-        Collected::Answered => 0,
-        Collected::Dropped(mark) => mark.number(),
-    }
-}
+// What an inspection read, printed as a version; blank is version 0.
+#[derive(Clone, Copy)]
+struct Seen<V>(Reading<V>);
 
-// The version that was read: 0 is blank.
-fn version_of<V: Value>(reading: Reading<V>) -> u8 {
-    match reading {
-        Reading::Blank => 0,
-        Reading::Own(_) => 0,
-        Reading::Version { number, value: _ } => number,
+impl<V: Value> fmt::Display for Seen<V> {
+    fn fmt<W: fmt::Write>(&self, f: &mut fmt::Formatter<W>) -> fmt::Result {
+        match self.0 {
+            Reading::Blank => write!(f, "version 0"),
+            Reading::Own(_) => write!(f, "no version"),
+            Reading::Version { number, .. } => write!(f, "version {number}"),
+        }
     }
 }
 
 // What the demonstration finds out.
 #[derive(Clone, Copy)]
-struct Findings {
-    before: u8,
-    dropped: u64,
-    mark: u8,
-    after: u8,
-    second_close: u8,
+struct Findings<V> {
+    before: Seen<V>,
+    // the last job that is dropped, and its mark
+    dropped: Option<(u64, Mark)>,
+    after: Seen<V>,
+    // the refusal of a second close
+    second_close: Option<Fault>,
     newest: u8,
     answered: u64,
+    // the job that is answered last
     last: u8,
 }
 
-// Fills record 13, which belongs to office 5, with versions until a job is dropped, between two inspections.
-fn explore<S: Shelf>(house: &mut House<S>, value: S::Value) -> Result<Findings, Fault> {
-    let before = version_of(inspect(house, 100, 13)?);
-    let mut dropped = 0;
-    let mut mark = 0;
-    for job in 0..33 {
-        let found = mark_of(commit(house, job, 13, value)?);
-        if found != 0 {
-            dropped = job;
-            mark = found;
+impl<V: Value> fmt::Display for Findings<V> {
+    fn fmt<W: fmt::Write>(&self, f: &mut fmt::Formatter<W>) -> fmt::Result {
+        writeln!(f, "record {RECORD} before: {}", self.before)?;
+        match self.dropped {
+            Some((job, mark)) => writeln!(f, "job {job} is dropped with mark {}", mark.number())?,
+            None => writeln!(f, "no job is dropped")?,
+        }
+        writeln!(f, "record {RECORD} after: {}", self.after)?;
+        match self.second_close {
+            Some(fault) => writeln!(f, "a second close, by slip: {}", fault.number())?,
+            None => writeln!(f, "a second close, by slip: accepted")?,
+        }
+        let Findings {
+            newest,
+            answered,
+            last,
+            ..
+        } = *self;
+        write!(
+            f,
+            "newest version {newest}, {answered} answered, the last {last}"
+        )
+    }
+}
+
+// Fills the record with versions until a job is dropped, between two inspections.
+fn explore<S: Shelf>(house: &mut House<S>, value: S::Value) -> Result<Findings<S::Value>, Fault> {
+    let before = Seen(inspect(house, 100, RECORD)?);
+    let mut dropped = None;
+    for job in 0..JOBS {
+        if let Collected::Dropped(mark) = commit(house, job, RECORD, value)? {
+            dropped = Some((job, mark));
         }
     }
-    let after = version_of(inspect(house, 101, 13)?);
+    let after = Seen(inspect(house, 101, RECORD)?);
     let second_close = refusal_of_second_close(house, 102)?;
-    let newest = house.newest_version(13)?;
+    let newest = house.newest_version(RECORD)?;
     let answered = house.answered_count();
     let last = house.answered_at(answered.saturating_sub(1))?;
     Ok(Findings {
         before,
         dropped,
-        mark,
         after,
         second_close,
         newest,
@@ -116,22 +139,10 @@ fn explore<S: Shelf>(house: &mut House<S>, value: S::Value) -> Result<Findings, 
 }
 
 fn main(rt: HostRuntime) -> io::Result<()> {
-    let mut cells = [StandingCell {
-        state: 0,
-        number: 0,
-    }; 64];
+    let mut cells = [Standing::spare().to_cell(); 64];
     let mut house = House::new(OFFICES, CellShelf::<Standing>::new(&mut cells));
     match explore(&mut house, Standing::Lodged(Day::new(9000))) {
-        Ok(f) => {
-            println!(rt; "record 13 before: version {}", f.before)?;
-            println!(rt; "job {} is dropped with mark {}", f.dropped, f.mark)?;
-            println!(rt; "record 13 after: version {}", f.after)?;
-            println!(rt; "a second close, by slip: {}", f.second_close)?;
-            println!(rt;
-                "newest version {}, {} answered, the last {}",
-                f.newest, f.answered, f.last
-            )
-        }
+        Ok(findings) => println!(rt; "{findings}"),
         Err(fault) => println!(rt; "refused with {}", fault.number()),
     }
 }
