@@ -1,20 +1,24 @@
-use Rattle.std.proofs.Common.{◌≡◌, ◌+◌, true, false, length, get_or, sym, ap, ◌∙◌}
-use Rattle.history.specs.Layout.{coding}
+use Rattle.std.proofs.Common.{◌≡◌, ◌+◌, true, false, length, get_or, sym, ap, ◌∙◌, subst}
+use Rattle.encoding.specs.Outputs.{put_bytes}
+use Rattle.history.specs.Layout.{coding, leaf_bytes}
 use Rattle.ledger.specs.Model.{is_answered}
 use Rattle.ledger.specs.View.{row_view}
-use Rattle.ledger.proofs.Views.{no_table_row}
+use Rattle.ledger.specs.declared.job.Row.{Row}
+use Rattle.archive.specs.Leaves.{row_leaf, lacks_write}
 use Rattle.archive.proofs.Outputs.{rest_put, turn_with_leaf, turn_without, rows_end, complete_at}
 use Rattle.archive.proofs.archive.Archive.put_leaves.Goals as goal
-use Rattle.archive.proofs.archive.Archive.put_leaves.Goals.{then-has_leaf, else-has_leaf}
+use Rattle.archive.proofs.archive.Archive.put_leaves.Goals.{then-is_answered, else-is_answered}
 
 -- the row that is written is the row of this turn, and its job is answered
 pub put_leaf-requires : goal.put_leaf-requires
 put_leaf-requires g c =
     let rows = c.args.self.now.ledger.now.rows in
     let i = c.loop-job.job in
-    let answered : is_answered (row_view (get_or rows i no_table_row)).state ≡ true = cc c.if-has_leaf.ensures in
-    let complete = complete_at (length (g.S.Shelf.items c.args.self.now.shelf.now)) rows i no_table_row c.loop-job-test.true c.args.self.now.complete answered in
-    cc
+    let d = c.index-rows-job.result in
+    let q : get_or rows i d ≡ d = sym c.index-rows-job.is in
+    let n = length (g.S.Shelf.items c.args.self.now.shelf.now) in
+    let answered : is_answered (row_view (get_or rows i d)).state ≡ true = ap (λ (x : Row). is_answered (row_view x).state) q ∙ sym c.is_answered.ensures ∙ c.if-is_answered.true in
+    subst (λ (x : Row). lacks_write n (row_view x).writes ≡ false) q (complete_at n rows i d c.loop-job-test.true c.args.self.now.complete answered)
 
 pub loop-job-preserved : goal.loop-job-preserved
 loop-job-preserved g c =
@@ -22,16 +26,19 @@ loop-job-preserved g c =
     let items = g.S.Shelf.items c.args.self.now.shelf.now in
     let rows = c.args.self.now.ledger.now.rows in
     let i = c.loop-job.job in
-    let x = row_view (get_or rows i no_table_row) in
-    elim c.if-has_leaf.branch [
-      | then-has_leaf w ↦ (
-          let answered : is_answered x.state ≡ true = cc w.if-has_leaf.ensures in
-          ap (rest_put m items rows (i + 1)) w.cursor-is ∙ turn_with_leaf m items rows i no_table_row c.loop-job.cursor c.loop-job-test.true w.put_leaf.new.cursor answered w.put_leaf.ensures ∙ c.loop-job.invariant
-          )
-      | else-has_leaf w ↦ (
-          let unanswered : is_answered x.state ≡ false = cc w.if-has_leaf.ensures in
-          ap (rest_put m items rows (i + 1)) w.cursor-is ∙ turn_without m items rows i no_table_row c.loop-job.cursor c.loop-job-test.true unanswered ∙ c.loop-job.invariant
-          )
+    let d = c.index-rows-job.result in
+    let q : get_or rows i d ≡ d = sym c.index-rows-job.is in
+    let told : is_answered (row_view (get_or rows i d)).state ≡ c.is_answered.result = ap (λ (x : Row). is_answered (row_view x).state) q ∙ sym c.is_answered.ensures in
+    elim c.if-is_answered.branch [
+      | then-is_answered w ↦
+          ap (rest_put m items rows (i + 1)) w.cursor-is
+          ∙ turn_with_leaf m items rows i d c.loop-job.cursor c.loop-job-test.true w.put_leaf.new.cursor (told ∙ w.if-is_answered.true)
+          (w.put_leaf.ensures ∙ ap (λ (x : Row). put_bytes (leaf_bytes m (row_leaf items i (row_view x))) c.loop-job.cursor) (sym q))
+          ∙ c.loop-job.invariant
+      | else-is_answered w ↦
+          ap (rest_put m items rows (i + 1)) w.cursor-is
+          ∙ turn_without m items rows i d c.loop-job.cursor c.loop-job-test.true (told ∙ w.if-is_answered.false)
+          ∙ c.loop-job.invariant
     ]
 
 pub returns : goal.returns
