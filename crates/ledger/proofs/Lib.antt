@@ -2,7 +2,6 @@ pub mod Tables
 pub mod Prepared
 pub mod Views
 pub mod Positions
-pub mod Refusals
 pub mod Searches
 pub mod MapsInPlace
 pub mod Installations
