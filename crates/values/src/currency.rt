@@ -42,11 +42,15 @@ impl Currency {
             Currency::Kwd => 3,
         }
     }
+}
+
+impl TryFrom<u64> for Currency {
+    type Error = ValueFault;
+
+    ghost try_from_gives = { λ number r. r ≡ ok_or (currency_of number) UnlistedCurrency };
 
     // The listed currency with an ISO 4217 number; refused (15) if there is none.
-    pub fn from_number(number: u64) -> Result<Currency, ValueFault>
-        ensures { result ≡ ok_or (currency_of number) UnlistedCurrency }
-    {
+    fn try_from(number: u64) -> Result<Currency, ValueFault> {
         match number {
             840 => Ok(Currency::Usd),
             978 => Ok(Currency::Eur),

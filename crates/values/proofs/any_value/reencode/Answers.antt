@@ -12,8 +12,8 @@ returns-in-Ok g c =
     let v = c.in-Ok.value in
     let p = some_from_ok (m.parsed s) _ v c.in-Ok.ensures in
     let same = g.met.V.Value.bytes_parsed s v (octets s (λ i. (c.type_inv.encoded i).fits)) p in
-    let test : eqb (length out) m.width ≡ reencodes m s out = ap (λ o. cond (is_some o) (eqb (length out) m.width) false) (sym p) in
+    let test : eqb (length out) m.WIDTH ≡ reencodes m s out = ap (λ o. cond (is_some o) (eqb (length out) m.WIDTH) false) (sym p) in
     record {
       told = c.encode.ensures.told ∙ test;
-      copied = c.encode.ensures.written ∙ ap (λ x. cond (eqb (length out) m.width) x out) same ∙ ap (λ b. cond b s out) test;
+      copied = c.encode.ensures.written ∙ ap (λ x. cond (eqb (length out) m.WIDTH) x out) same ∙ ap (λ b. cond b s out) test;
     }

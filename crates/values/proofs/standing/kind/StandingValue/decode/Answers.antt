@@ -1,11 +1,22 @@
-use Rattle.std.proofs.Common.{sym, refl, ap, ◌∙◌}
+use Rattle.std.proofs.Common.{◌≡◌, Ok, rules, length, sym, ap, ◌∙◌}
+use Rattle.std.proofs.lemmas.Result.{MatchResult-at_ok}
+use Rattle.std.proofs.lemmas.Option.{MatchOption-at_some}
 use Rattle.std.specs.Option.{ok_or}
+use Rattle.encoding.specs.Bytes.{from_little_endian}
+use Rattle.encoding.proofs.BytesLaws.{number_is}
 use Rattle.values.specs.declared.fault.ValueFault.TheVariants.{NotAValue}
 use Rattle.values.specs.StandingLaws.{standing_in_is}
 use Rattle.values.proofs.standing.kind.StandingValue.decode.Goals as goal
 
 pub returns : goal.returns
 returns c =
-    c.ok_or.ensures.value
-    ∙ ap (λ o. ok_or o NotAValue) (c.from_numbers.ensures
-    ∙ sym (standing_in_is c.args.encoded.now _ c.get_u32-number.result c.if-encoded-ne-WIDTH.false refl c.get_u32-number.ensures))
+    let n = c.in_ok-number.number in
+    let k = c.in_ok-state.state in
+    let rest = c.in_ok-state.number in
+    let w = c.in_ok-number.was in
+    let e = c.in_ok-number.ensures.cases in
+    let read : c.try_into.result ≡ Ok n = search rules in
+    let whole = MatchResult-at_ok _ _ n read c.try_into.ensures.1 in
+    let apart = MatchOption-at_some _ _ (k, rest) c.in_ok-state.ensures.ok_part c.split_first.ensures.cases in
+    let is : c.from_le_bytes.result ≡ from_little_endian rest.now = c.from_le_bytes.ensures ∙ number_is 3 n (ap length whole.same ∙ whole.long) ∙ ap from_little_endian whole.same in
+    c.from_cell.ensures ∙ ap (λ o. ok_or o NotAValue) (sym (standing_in_is c.args.encoded.now k.now rest.now c.from_le_bytes.result apart.0 whole.long is))
