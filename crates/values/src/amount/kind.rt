@@ -1,10 +1,10 @@
 // How amounts are made, and amounts as a kind of value.
-ghost use Rattle.std.specs.Prelude.{◌≡◌};
+ghost use Rattle.std.specs.Prelude.{◌≡◌, refl};
 ghost use Rattle.std.specs.Option.{ok_or};
 ghost use Rattle.values.specs.Amounts.{amount_of, amount_from_numbers, amount_bytes, amount_in, amount_cell, amount_in_cell, spare_amount};
 ghost use Rattle.values.specs.declared.fault.ValueFault.TheVariants.{OutOfRange};
 ghost use Rattle.values.specs.AmountLaws.{parsed_bytes, bytes_parsed, if_any_is, cell_restored};
-ghost use Rattle.std.proofs.Common.{rules, arith};
+ghost use Rattle.std.proofs.Common.{rules};
 
 use super::{Amount, AmountCell, LEAST_UNITS, MOST_UNITS};
 use crate::currency::Currency;
@@ -67,13 +67,13 @@ impl Value for Amount {
 
     ghost fallback = { spare_amount };
 
-    ghost width_positive = { first_of (Prim.search rules, Prim.grind (arith, Self.row.coded.inj)) };
+    ghost width_positive = { Prim.search rules };
 
-    ghost width_limit = { first_of (Prim.search rules, Prim.grind (arith, Self.row.coded.inj)) };
+    ghost width_limit = { Prim.search rules };
 
-    ghost kind_limit = { first_of (Prim.search rules, Prim.grind (arith, Self.row.coded.inj)) };
+    ghost kind_limit = { Prim.search rules };
 
-    ghost bytes_width = { first_of (Prim.search rules, Prim.grind (arith, Self.row.coded.inj)) };
+    ghost bytes_width = { λ _. refl };
 
     ghost parsed_bytes = { parsed_bytes };
 
