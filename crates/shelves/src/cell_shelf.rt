@@ -82,8 +82,5 @@ fn value_at<V: Value>(cells: &[V::Cell], place: usize) -> V
     requires { place < length cells.now }
     ensures { (d : V.Cell) → result ≡ value_in V.Value (slice_index_or cells.now place d) }
 {
-    match V::from_cell(cells[place]) {
-        Ok(value) => value,
-        Err(_) => V::spare(),
-    }
+    V::from_cell(cells[place]).unwrap_or(V::spare())
 }
