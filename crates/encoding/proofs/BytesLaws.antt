@@ -1,14 +1,9 @@
 -- A number comes back from its little_endian bytes, and bytes from their number; what lists of bytes and frames keep.
-use Rattle.std.proofs.Common.{◌≡◌, ℕ, zero, suc, ◌+◌, ◌*◌, ◌/◌, ◌%◌, ◌^◌, ◌<◌, List, [], ◌∷◌, length, get_or, take, drop, refl, sym, ap, ◌∙◌, arith}
-use Rattle.std.specs.Int.{byte_at, byte_worth, bytes_low_first, sum_through}
-use Rattle.std.proofs.Math.Nat.{pow-suc, div-div-eq-div-mul}
+use Rattle.std.proofs.Common.{◌≡◌, ℕ, zero, suc, ◌+◌, ◌*◌, ◌/◌, ◌%◌, ◌^◌, ◌<◌, List, [], ◌∷◌, length, get_or, take, drop, refl, ap, ◌∙◌, arith}
+use Rattle.std.specs.Int.{byte_worth, sum_through}
+use Rattle.std.proofs.Math.Nat.{pow-suc}
 use native.Mathlib.Nat.{pow-succ'}
 use Rattle.encoding.specs.Bytes.{little_endian, from_little_endian, Octets}
-use Rattle.encoding.specs.Frames.{frame, frame_head}
-
-pub length_little_endian : (k n : ℕ) → length (little_endian k n) ≡ k
-length_little_endian zero n = refl
-length_little_endian (suc k) n = ap suc (length_little_endian k (n / 256))
 
 -- a number that fits the width comes back
 pub number_of_little_endian : (k n : ℕ) → n < 256 ^ k → from_little_endian (little_endian k n) ≡ n
@@ -57,22 +52,7 @@ octets_drop zero s o = o
 octets_drop (suc n) [] o = tt
 octets_drop (suc n) (b ∷ bs) o = octets_drop n bs o.1
 
--- the library's words for a number's bytes mean the same
-byte_is : (i n : ℕ) → byte_at i n ≡ n / 256 ^ i % 256
-byte_is zero n = omega arith
-byte_is (suc i) n = refl
-
-bytes_from : (i k n : ℕ) → bytes_low_first i k n ≡ little_endian k (n / 256 ^ i)
-bytes_from i zero n = refl
-bytes_from i (suc k) n =
-    let next : n / 256 ^ suc i ≡ n / 256 ^ i / 256 = ap (λ m. n / m) (pow-suc 256 i) ∙ sym (div-div-eq-div-mul n (256 ^ i) 256) in
-    ap (λ b. b ∷ bytes_low_first (suc i) k n) (byte_is i n)
-    ∙ ap (λ bs. n / 256 ^ i % 256 ∷ bs) (bytes_from (suc i) k n ∙ ap (little_endian k) next)
-
-pub bytes_are : (k n : ℕ) → bytes_low_first 0 k n ≡ little_endian k n
-bytes_are k n = bytes_from 0 k n ∙ ap (little_endian k) (omega arith)
-
--- and so do those for the number that bytes hold
+-- the library's word for the number that bytes hold means the same: the first byte apart, the others are worth 256 times as much
 first_apart : (f : ℕ → ℕ) (k : ℕ) → sum_through f (suc k) ≡ f 0 + sum_through (λ i. f (suc i)) k
 first_apart f zero = refl
 first_apart f (suc k) = let r = first_apart f k in omega arith
@@ -94,6 +74,3 @@ number_is (suc k) (b ∷ bs) e =
     let r : sum_through f k ≡ from_little_endian bs = number_is k bs (omega arith) in
     first_apart (λ i. byte_worth i (get_or (b ∷ bs) i 0)) k
     ∙ ap (λ m. b + m) (scaled f (λ i. byte_worth (suc i) (get_or bs i 0)) (λ i. worth_next i (get_or bs i 0)) k ∙ ap (λ m. 256 * m) r)
-
-pub length_frame : (kind : ℕ) (body : List ℕ) → length (frame kind body) ≡ length body + frame_head
-length_frame kind body = omega arith
