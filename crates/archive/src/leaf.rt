@@ -31,7 +31,7 @@ fn put_value_through<V: Value>(value: V, memory: &mut [u8], cursor: &mut Cursor<
     ensures puts { cursor_output cursor.new ≡ put_bytes (V.Value.bytes value) (cursor_output cursor.old) }
     ensures same { cursor.new.buffer.ghost_name ≡ cursor.old.buffer.ghost_name }
 {
-    let width = V::byte_width();
+    let width = V::WIDTH;
     value.encode(&mut memory[0..width]);
     cursor.put_all(&memory[0..width]);
 }
@@ -81,7 +81,7 @@ pub(crate) fn put_leaf<S: Shelf>(job: u16, row: &Row, shelf: &S, cursor: &mut Cu
     ensures puts { cursor_output cursor.new ≡ put_bytes (leaf_bytes S.Value.Value.bytes (row_leaf (S.items shelf.now) job (row_view row.now))) (cursor_output cursor.old) }
     ensures same { cursor.new.buffer.ghost_name ≡ cursor.old.buffer.ghost_name }
 {
-    let size = leaf_size(row, S::Value::byte_width());
+    let size = leaf_size(row, S::Value::WIDTH);
     cursor.put_frame_head(size as u32 - 4, frame_kind(row.kind));
     cursor.put_u16(job);
     cursor.put_counted(row.reads.as_slice(), &ReadEntry {});

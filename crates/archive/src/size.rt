@@ -77,7 +77,7 @@ fn leaves_size(rows: &[Row], width: usize) -> usize
 // How many bytes the archive takes.
 pub fn archive_size<S: Shelf>(ledger: &Ledger, shelf: &S) -> usize
     requires { lacks_value (length (S.items shelf.now)) (view ledger.now).rows ≡ false }
-    ensures { result ≡ length (archive_bytes S.Value.Value.bytes S.Value.Value.kind S.Value.Value.width (row_leaves (S.items shelf.now) 0 (view ledger.now).rows)) }
+    ensures { result ≡ length (archive_bytes S.Value.Value.bytes S.Value.Value.KIND S.Value.Value.WIDTH (row_leaves (S.items shelf.now) 0 (view ledger.now).rows)) }
 {
-    HEAD_SIZE + leaves_size(&ledger.rows[..], S::Value::byte_width())
+    HEAD_SIZE + leaves_size(&ledger.rows[..], S::Value::WIDTH)
 }

@@ -31,7 +31,7 @@ fn plain(refusal: u8, told: u8, small: u8, number: u64) -> [u8; ANSWER] {
 // An answer that has a value.
 fn with_value<V: Value>(told: u8, version: u8, value: V) -> [u8; ANSWER] {
     let mut answer = plain(0, told, version, 0);
-    let width = V::byte_width();
+    let width = V::WIDTH;
     let rest = &mut answer[16..];
     if width <= rest.len() {
         let _ = value.encode(&mut rest[..width]);

@@ -45,7 +45,7 @@ fn number_of(bytes: &[u8; REQUEST]) -> u64 {
 
 // A write; refused (16) if the bytes of its value are none of the kind.
 fn write_of<V: Value>(bytes: &[u8; REQUEST]) -> Result<Request<V>, Fault> {
-    let width = V::byte_width();
+    let width = V::WIDTH;
     let rest = &bytes[1..];
     if width > rest.len() {
         return Ok(Request::Unknown);

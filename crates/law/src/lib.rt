@@ -13,22 +13,22 @@ pub mod perform;
 
 // Archives agree exactly if the logs do, each read is explained by the jobs answered before it, and the first of the line can be collected.
 pub fn law_stands<V: Value>()
-    ensures { TheLaw (coding V.Value.bytes V.Value.kind V.Value.width) }
+    ensures { TheLaw (coding V.Value.bytes V.Value.KIND V.Value.WIDTH) }
 {}
 
 // No call of a run finds that the shelf lacks a place.
 pub fn shelf_never_lacks<V: Value>()
-    ensures { NeverLacking (coding V.Value.bytes V.Value.kind V.Value.width) }
+    ensures { NeverLacking (coding V.Value.bytes V.Value.KIND V.Value.WIDTH) }
 {}
 
 // The ledger of a run keeps what every run of the ledger's own calls keeps.
 pub fn ledger_reached<V: Value>()
-    ensures { LedgerReached (coding V.Value.bytes V.Value.kind V.Value.width) }
+    ensures { LedgerReached (coding V.Value.bytes V.Value.KIND V.Value.WIDTH) }
 {}
 
 // In a house that calls have led to, the archive that the code writes, which goes by the rows, is that of the answered jobs.
 pub fn rows_archived<V: Value>()
-    ensures { RowsArchived (coding V.Value.bytes V.Value.kind V.Value.width) }
+    ensures { RowsArchived (coding V.Value.bytes V.Value.KIND V.Value.WIDTH) }
 {}
 
 // Two runs of the same jobs in different orders have one archive.

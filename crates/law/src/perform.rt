@@ -60,9 +60,9 @@ fn dispatch<S: Shelf>(
     call: Call<S::Value>,
     buffer: &mut [u8],
 ) -> Result<Told<S::Value>, Fault>
-    ensures told { result ≡ performed_told (coding S.Value.Value.bytes S.Value.Value.kind S.Value.Value.width) (model S.items S.room house.old) call (length buffer.old) }
-    ensures after { model S.items S.room house.new ≡ call_after (coding S.Value.Value.bytes S.Value.Value.kind S.Value.Value.width) (model S.items S.room house.old) call }
-    ensures buffer { buffer.new ≡ performed_buffer (coding S.Value.Value.bytes S.Value.Value.kind S.Value.Value.width) (model S.items S.room house.old) call buffer.old }
+    ensures told { result ≡ performed_told (coding S.Value.Value.bytes S.Value.Value.KIND S.Value.Value.WIDTH) (model S.items S.room house.old) call (length buffer.old) }
+    ensures after { model S.items S.room house.new ≡ call_after (coding S.Value.Value.bytes S.Value.Value.KIND S.Value.Value.WIDTH) (model S.items S.room house.old) call }
+    ensures buffer { buffer.new ≡ performed_buffer (coding S.Value.Value.bytes S.Value.Value.KIND S.Value.Value.WIDTH) (model S.items S.room house.old) call buffer.old }
 {
     match call {
         Call::Open { job, kind } => done(house.open(job, kind)),
@@ -90,12 +90,12 @@ pub fn perform<S: Shelf>(
     call: Call<S::Value>,
     buffer: &mut [u8],
 ) -> Result<Told<S::Value>, Fault>
-    ensures told { result ≡ performed_told (coding S.Value.Value.bytes S.Value.Value.kind S.Value.Value.width) (model S.items S.room house.old) call (length buffer.old) }
-    ensures after { model S.items S.room house.new ≡ call_after (coding S.Value.Value.bytes S.Value.Value.kind S.Value.Value.width) (model S.items S.room house.old) call }
-    ensures buffer { buffer.new ≡ performed_buffer (coding S.Value.Value.bytes S.Value.Value.kind S.Value.Value.width) (model S.items S.room house.old) call buffer.old }
-    ensures law { TheLaw (coding S.Value.Value.bytes S.Value.Value.kind S.Value.Value.width) }
-    ensures own { OwnTold (coding S.Value.Value.bytes S.Value.Value.kind S.Value.Value.width) }
-    ensures chain { Continues (coding S.Value.Value.bytes S.Value.Value.kind S.Value.Value.width) (model S.items S.room house.old) call buffer.old result buffer.new (model S.items S.room house.new) }
+    ensures told { result ≡ performed_told (coding S.Value.Value.bytes S.Value.Value.KIND S.Value.Value.WIDTH) (model S.items S.room house.old) call (length buffer.old) }
+    ensures after { model S.items S.room house.new ≡ call_after (coding S.Value.Value.bytes S.Value.Value.KIND S.Value.Value.WIDTH) (model S.items S.room house.old) call }
+    ensures buffer { buffer.new ≡ performed_buffer (coding S.Value.Value.bytes S.Value.Value.KIND S.Value.Value.WIDTH) (model S.items S.room house.old) call buffer.old }
+    ensures law { TheLaw (coding S.Value.Value.bytes S.Value.Value.KIND S.Value.Value.WIDTH) }
+    ensures own { OwnTold (coding S.Value.Value.bytes S.Value.Value.KIND S.Value.Value.WIDTH) }
+    ensures chain { Continues (coding S.Value.Value.bytes S.Value.Value.KIND S.Value.Value.WIDTH) (model S.items S.room house.old) call buffer.old result buffer.new (model S.items S.room house.new) }
 {
     dispatch(house, call, buffer)
 }

@@ -19,9 +19,9 @@ returns g c =
     let size = c.leaf_size-size.result in
     record {
       puts =
-          leaf_put m.bytes items m.width (lawful m.bytes m.parsed m.width g.met.S.Value.Value.bytes_width g.met.S.Value.Value.parsed_bytes) c.args.job x c.requires size
+          leaf_put m.bytes items m.WIDTH (lawful m.bytes m.parsed m.WIDTH g.met.S.Value.Value.bytes_width g.met.S.Value.Value.parsed_bytes) c.args.job x c.requires size
           (cursor_output c.args.cursor.now) (cursor_output c.put_frame_head.new.self) (cursor_output c.put_u16.new.self) (cursor_output c.put_counted.new.self) (cursor_output c.put_counted-2.new.self)
-          (c.leaf_size-size.ensures.value ∙ ap (λ w. row_size w x) c.byte_width.ensures)
+          (c.leaf_size-size.ensures.value ∙ ap (λ w. row_size w x) c.WIDTH.ensures)
           (c.put_frame_head.ensures.puts ∙ ap (λ k. put_bytes (little_endian 4 (size - 4) ++ little_endian 2 k) (cursor_output c.args.cursor.now)) c.frame_kind.ensures)
           c.put_u16.ensures.puts
           (c.put_counted.ensures.puts ∙ ap (λ l. put_bytes (counted read_bytes l) (cursor_output c.put_u16.new.self)) c.as_slice.ensures.value)

@@ -9,5 +9,5 @@ pub returns : goal.returns
 returns g c =
     let m = g.S.Value.Value in
     let rows = (view c.args.ledger.now).rows in
-    ap (λ n. 12 + n) (c.leaves_size.ensures.value ∙ ap (λ w. sum_by (size_if_answered w) rows) c.byte_width.ensures)
-    ∙ sym (archive_length (g.S.Shelf.items c.args.shelf.now) m.bytes m.kind m.width (lawful m.bytes m.parsed m.width g.met.S.Value.Value.bytes_width g.met.S.Value.Value.parsed_bytes) rows c.requires)
+    ap (λ n. 12 + n) (c.leaves_size.ensures.value ∙ ap (λ w. sum_by (size_if_answered w) rows) c.WIDTH.ensures)
+    ∙ sym (archive_length (g.S.Shelf.items c.args.shelf.now) m.bytes m.KIND m.WIDTH (lawful m.bytes m.parsed m.WIDTH g.met.S.Value.Value.bytes_width g.met.S.Value.Value.parsed_bytes) rows c.requires)

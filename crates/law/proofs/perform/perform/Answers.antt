@@ -12,7 +12,7 @@ returns g c =
       told = d.told;
       after = d.after;
       buffer = d.buffer;
-      law = the_law _ (lawful m.bytes m.parsed m.width g.met.S.Value.Value.bytes_width g.met.S.Value.Value.parsed_bytes);
+      law = the_law _ (lawful m.bytes m.parsed m.WIDTH g.met.S.Value.Value.bytes_width g.met.S.Value.Value.parsed_bytes);
       own = owns _;
       chain = continued _ _ _ c.args.call _ _ _ d.told d.after d.buffer;
     }
