@@ -4,7 +4,7 @@ use Rattle.std.proofs.Common.{sym, ap, subst, ◌∙◌, arith, take-append-drop
 use mathlib.Core.HLevel.{is_prop→PathP}
 use Rattle.std.proofs.Props.{props}
 use Rattle.std.specs.Int.{w64}
-use Rattle.std.proofs.lemmas.List.{length-take-le, length-drop}
+use Rattle.std.proofs.lemmas.List.{length-take-le, length-drop, take_all}
 use Rattle.std.proofs.lemmas.Int.{ints, to_z-of_z, of_z-to_z}
 use Rattle.std.proofs.lemmas.Bool.{eqb-true, eq-eqb, cond-true}
 use Rattle.std.specs.Option.{ok_or}
@@ -110,9 +110,10 @@ bytes_parsed s a o e =
 pub cell_restored : (c : AmountCell) (a : Amount) → amount_in_cell c ≡ Some a → amount_cell a ≡ c
 cell_restored c a e = let m = if_any_some c.currency c.units a e in λ i. record { currency = m.0 i; units = m.1 i }
 
--- the amount in ten bytes, from the numbers in the first two of them and in the others
-pub amount_in_is : (s bs cs : List ℕ) (n : ℕ) (z : ℤ) → bs ≡ take 2 s → cs ≡ drop 2 s → length cs ≡ 8 → n ≡ from_little_endian bs → z ≡ to_z w64 (from_little_endian cs) → amount_in s ≡ amount_if_any n z
-amount_in_is s bs cs n z d e l f g =
-    cond-true (length s == 10) _ _ (eq-eqb _ _ (omega (arith, ap length e, length-drop 2 s)))
-    ∙ ap (λ k. amount_if_any k (to_z w64 (from_little_endian (drop 2 s)))) (sym (f ∙ ap from_little_endian d))
-    ∙ ap (amount_if_any n) (sym (g ∙ ap (λ x. to_z w64 (from_little_endian x)) e))
+-- the amount in ten bytes, from the two numbers that the code reads
+pub amount_in_is : (s : List ℕ) (n : ℕ) (z : ℤ) → length s ≡ 10 → n ≡ from_little_endian (take 2 s) → z ≡ to_z w64 (from_little_endian (take 8 (drop 2 s))) → amount_in s ≡ amount_if_any n z
+amount_in_is s n z e f g =
+    let t : take 8 (drop 2 s) ≡ drop 2 s = take_all 8 (drop 2 s) (omega (arith, length-drop 2 s)) in
+    cond-true (length s == 10) _ _ (eq-eqb _ _ e)
+    ∙ ap (λ k. amount_if_any k (to_z w64 (from_little_endian (drop 2 s)))) (sym f)
+    ∙ ap (amount_if_any n) (sym (g ∙ ap (λ x. to_z w64 (from_little_endian x)) t))

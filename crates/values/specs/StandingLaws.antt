@@ -1,9 +1,9 @@
 -- A standing is its two numbers; its bytes and its cell give it back.
-use Rattle.std.specs.Prelude.{◌≡◌, ℕ, ◌<◌, ◌≤◌, Bool, true, false, cond, ltb, leb, List, [], ◌∷◌, length, drop, Some, None, ◌==◌, nat_le, nat_lt, slice_index, refl}
+use Rattle.std.specs.Prelude.{◌≡◌, ℕ, ◌<◌, ◌≤◌, Bool, true, false, cond, ltb, leb, List, [], ◌∷◌, length, take, drop, Some, None, ◌==◌, nat_le, nat_lt, slice_index, refl}
 use Rattle.std.proofs.Common.{sym, ap, ◌∙◌, arith}
 use mathlib.Core.HLevel.{is_prop→PathP}
 use Rattle.std.proofs.Math.Bridge.{le_prop}
-use Rattle.std.proofs.lemmas.List.{length-drop}
+use Rattle.std.proofs.lemmas.List.{length-drop, take_all}
 use Rattle.std.proofs.lemmas.Bool.{eqb-true, eq-eqb, ltb-false, leb-false, cond-true}
 use Rattle.std.specs.Option.{option_map}
 use Rattle.encoding.specs.Bytes.{little_endian, from_little_endian, Octets}
@@ -125,9 +125,10 @@ bytes_parsed s v o e =
 pub cell_restored : (c : StandingCell) (v : Standing) → standing_in_cell c ≡ Some v → standing_cell v ≡ c
 cell_restored c v e = let m = standing_of_some c.state c.number v e in λ i. record { state = m.0 i; number = m.1 i }
 
--- the standing in five bytes, from the first of them and the number in the others
-pub standing_in_is : (s : List ℕ) (k : ℕ) (bs : List ℕ) (n : ℕ) → s ≡ k ∷ bs → length bs ≡ 4 → n ≡ from_little_endian bs → standing_in s ≡ standing_of k n
-standing_in_is s k bs n e f g =
-    ap standing_in e
-    ∙ cond-true (length (k ∷ bs) == 5) _ _ (eq-eqb _ _ (omega arith))
-    ∙ ap (standing_of k) (sym g)
+-- the standing in five bytes, from the two numbers that the code reads
+pub standing_in_is : (s : List ℕ) (k n : ℕ) → length s ≡ 5 → k ≡ slice_index s 0 → n ≡ from_little_endian (take 4 (drop 1 s)) → standing_in s ≡ standing_of k n
+standing_in_is s k n e f g =
+    let t : take 4 (drop 1 s) ≡ drop 1 s = take_all 4 (drop 1 s) (omega (arith, length-drop 1 s)) in
+    cond-true (length s == 5) _ _ (eq-eqb _ _ e)
+    ∙ ap (λ x. standing_of x (from_little_endian (drop 1 s))) (sym f)
+    ∙ ap (standing_of k) (sym (g ∙ ap from_little_endian t))
