@@ -20,8 +20,6 @@ returns-in-2 c =
 pub returns-in_ok-reason-in-3 : goal.returns-in_ok-reason-in-3
 returns-in_ok-reason-in-3 c =
     let r = c.in_ok-reason-in-3.reason in
-    let w = c.in_ok-reason-in-3.was in
-    let e = c.in_ok-reason-in-3.ensures.cases in
     let made : Ok r ≡ c.new-in-3.result = search rules in
     let some = some_from_ok (reason_of c.into.result) OutOfRange r (made ∙ c.new-in-3.ensures) in
     ap (λ o. ok_or (option_map (λ x. Stopped x) o) NotAValue) (sym some ∙ ap reason_of c.into.ensures)
