@@ -86,6 +86,7 @@ fn frames_in<V: Value>(bytes: usize) -> usize
 }
 
 // Writes the frame of a value at a place.
+// No `chunks_exact_mut(size).nth(place)`: it gives an `Option`, though each place that is asked for has a frame.
 fn put_frame<V: Value>(bytes: &mut [u8], place: usize, value: V)
     requires { place < frames_in V.Value (length bytes.old) }
     ensures { bytes.new ≡ with_frame V.Value bytes.old place value }

@@ -32,7 +32,7 @@ pub trait Value: Copy {
     ghost fallback: { Self };
 
     // Writes the value's bytes if there is room for exactly these, else nothing; tells which.
-    // A `bool`, as a set's `insert` gives: there is nothing to hand back and one way to fail, so a `Result` or an `Option` would say no more.
+    // A `bool`: no refusal tells of a wrong length, and an `Option<()>` would say no more.
     fn encode(self, out: &mut [u8]) -> bool
         ensures told { result ≡ (length out.old == WIDTH) }
         ensures written { out.new ≡ (if nat_eq (length out.old) WIDTH then bytes self else out.old) };
