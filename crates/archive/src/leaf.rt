@@ -29,7 +29,7 @@ fn put_value<V: Value>(value: V, cursor: &mut Cursor<'_>)
     ensures { cursor.new ≡ put_bytes (V.Value.bytes value) cursor.old }
 {
     let mut memory = [0u8; MOST_WIDTH];
-    let width = V::byte_width();
+    let width = V::WIDTH;
     value.encode(&mut memory[..width]);
     cursor.put_all(&memory[..width]);
 }
@@ -73,7 +73,7 @@ pub(crate) fn put_leaf<S: Shelf>(job: u16, row: &Row, shelf: &S, cursor: &mut Cu
     requires { lacks_write (length (S.items shelf.now)) (row_view row.now).writes ≡ false }
     ensures { cursor.new ≡ put_bytes (leaf_bytes (coding S.Value.Value) (row_leaf (S.items shelf.now) job (row_view row.now))) cursor.old }
 {
-    let size = leaf_size(row, S::Value::byte_width());
+    let size = leaf_size(row, S::Value::WIDTH);
     cursor.put_frame_head(size - 4, frame_kind(row.kind));
     cursor.put_all(&job.to_le_bytes());
     cursor.put(row.reads.len() as u8);

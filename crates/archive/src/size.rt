@@ -51,6 +51,6 @@ impl<'a, S: Shelf> Archive<'a, S> {
     pub fn size(&self) -> usize
         ensures { result ≡ length (archive_bytes (coding S.Value.Value) (row_leaves (S.items self.now.shelf.now) 0 (view self.now.ledger.now).rows)) }
     {
-        HEAD_SIZE + leaves_size(&self.ledger.rows[..], S::Value::byte_width()) as usize
+        HEAD_SIZE + leaves_size(&self.ledger.rows[..], S::Value::WIDTH) as usize
     }
 }

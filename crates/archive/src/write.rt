@@ -19,8 +19,8 @@ fn put_head<V: Value>(leaves: u16, cursor: &mut Cursor<'_>)
 {
     cursor.put_frame_head(8, 1);
     cursor.put_all(&leaves.to_le_bytes());
-    cursor.put_all(&V::kind_number().to_le_bytes());
-    cursor.put_all(&(V::byte_width() as u16).to_le_bytes());
+    cursor.put_all(&V::KIND.to_le_bytes());
+    cursor.put_all(&(V::WIDTH as u16).to_le_bytes());
 }
 
 impl<'a, S: Shelf> Archive<'a, S> {

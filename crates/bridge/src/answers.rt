@@ -52,7 +52,7 @@ pub struct Answer {
 // The bytes of a value, and zeros.
 fn value_bytes<V: Value>(value: V) -> [u8; VALUE] {
     let mut bytes = [0; VALUE];
-    if let Some(place) = bytes.get_mut(..V::byte_width()) {
+    if let Some(place) = bytes.get_mut(..V::WIDTH) {
         let _ = value.encode(place);
     }
     bytes

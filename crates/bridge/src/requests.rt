@@ -41,7 +41,7 @@ fn number_at(bytes: &[u8; REQUEST], start: usize) -> u64
 
 // The value of a write, if there are bytes enough for one of the kind; refused (16) if these are none of the kind.
 fn value_of<V: Value>(bytes: &[u8; REQUEST]) -> Result<Option<V>, Fault> {
-    let Some(encoded) = bytes[1..].get(..V::byte_width()) else {
+    let Some(encoded) = bytes[1..].get(..V::WIDTH) else {
         return Ok(None);
     };
     Ok(Some(V::decode(encoded)?))

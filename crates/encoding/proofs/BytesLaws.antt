@@ -1,12 +1,9 @@
 -- A number comes back from its little_endian bytes, and bytes from their number; what lists of bytes and frames keep.
-use Rattle.std.proofs.Common.{◌≡◌, ℕ, zero, suc, ◌+◌, ◌*◌, ◌/◌, ◌%◌, ◌^◌, ◌<◌, ◌≤◌, List, [], ◌∷◌, length, get_or, take, drop, refl, ap, ◌∙◌, arith}
+use Rattle.std.proofs.Common.{◌≡◌, ℕ, zero, suc, ◌+◌, ◌*◌, ◌/◌, ◌%◌, ◌^◌, ◌<◌, List, [], ◌∷◌, length, get_or, take, drop, refl, ap, ◌∙◌, arith}
+use Rattle.std.specs.Int.{byte_worth, sum_through}
+use Rattle.std.proofs.Math.Nat.{pow-suc}
 use native.Mathlib.Nat.{pow-succ'}
 use Rattle.encoding.specs.Bytes.{little_endian, from_little_endian, Octets}
-use Rattle.encoding.specs.Frames.{frame, frame_head}
-
-pub length_little_endian : (k n : ℕ) → length (little_endian k n) ≡ k
-length_little_endian zero n = refl
-length_little_endian (suc k) n = ap suc (length_little_endian k (n / 256))
 
 -- a number that fits the width comes back
 pub number_of_little_endian : (k n : ℕ) → n < 256 ^ k → from_little_endian (little_endian k n) ≡ n
@@ -55,27 +52,25 @@ octets_drop zero s o = o
 octets_drop (suc n) [] o = tt
 octets_drop (suc n) (b ∷ bs) o = octets_drop n bs o.1
 
--- the bytes from a place on: the byte there and those behind it
-pub number_step : (s : List ℕ) (i : ℕ) → i < length s → from_little_endian (drop i s) ≡ get_or s i 0 + 256 * from_little_endian (drop (suc i) s)
-number_step [] i h = absurd (omega arith)
-number_step (b ∷ bs) zero h = refl
-number_step (b ∷ bs) (suc i) h = number_step bs i (omega arith)
+-- the library's word for the number that bytes hold means the same: the first byte apart, the others are worth 256 times as much
+first_apart : (f : ℕ → ℕ) (k : ℕ) → sum_through f (suc k) ≡ f 0 + sum_through (λ i. f (suc i)) k
+first_apart f zero = refl
+first_apart f (suc k) = let r = first_apart f k in omega arith
 
-pub number_end : (s : List ℕ) (i : ℕ) → length s ≤ i → from_little_endian (drop i s) ≡ 0
-number_end [] zero h = refl
-number_end [] (suc i) h = refl
-number_end (b ∷ bs) zero h = absurd (omega arith)
-number_end (b ∷ bs) (suc i) h = number_end bs i (omega arith)
+scaled : (f g : ℕ → ℕ) → ((i : ℕ) → g i ≡ 256 * f i) → (k : ℕ) → sum_through g k ≡ 256 * sum_through f k
+scaled f g e zero = e 0
+scaled f g e (suc k) = let r = scaled f g e k in let q = e (suc k) in omega arith
 
--- the number of two, four and eight bytes, as the library's from_le_bytes writes it
-pub number_of_2 : (s : List ℕ) → length s ≡ 2 → from_little_endian s ≡ get_or s 0 0 + get_or s 1 0 * 256
-number_of_2 s e = omega (arith, number_step s 0 (omega arith), number_step s 1 (omega arith), number_end s 2 (omega arith))
+worth_next : (i b : ℕ) → byte_worth (suc i) b ≡ 256 * byte_worth i b
+worth_next zero b = omega arith
+worth_next (suc i) b = ap (λ m. b * m) (pow-suc 256 (suc i)) ∙ grind arith
 
-pub number_of_4 : (s : List ℕ) → length s ≡ 4 → from_little_endian s ≡ get_or s 0 0 + get_or s 1 0 * 256 + get_or s 2 0 * 65536 + get_or s 3 0 * 16777216
-number_of_4 s e = omega (arith, number_step s 0 (omega arith), number_step s 1 (omega arith), number_step s 2 (omega arith), number_step s 3 (omega arith), number_end s 4 (omega arith))
-
-pub number_of_8 : (s : List ℕ) → length s ≡ 8 → from_little_endian s ≡ get_or s 0 0 + get_or s 1 0 * 256 + get_or s 2 0 * 65536 + get_or s 3 0 * 16777216 + get_or s 4 0 * 4294967296 + get_or s 5 0 * 1099511627776 + get_or s 6 0 * 281474976710656 + get_or s 7 0 * 72057594037927936
-number_of_8 s e = omega (arith, number_step s 0 (omega arith), number_step s 1 (omega arith), number_step s 2 (omega arith), number_step s 3 (omega arith), number_step s 4 (omega arith), number_step s 5 (omega arith), number_step s 6 (omega arith), number_step s 7 (omega arith), number_end s 8 (omega arith))
-
-pub length_frame : (kind : ℕ) (body : List ℕ) → length (frame kind body) ≡ length body + frame_head
-length_frame kind body = omega arith
+pub number_is : (k : ℕ) (s : List ℕ) → length s ≡ suc k → sum_through (λ i. byte_worth i (get_or s i 0)) k ≡ from_little_endian s
+number_is k [] e = absurd (omega arith)
+number_is zero (b ∷ []) e = omega arith
+number_is zero (b ∷ c ∷ bs) e = absurd (omega arith)
+number_is (suc k) (b ∷ bs) e =
+    let f : ℕ → ℕ = λ i. byte_worth i (get_or bs i 0) in
+    let r : sum_through f k ≡ from_little_endian bs = number_is k bs (omega arith) in
+    first_apart (λ i. byte_worth i (get_or (b ∷ bs) i 0)) k
+    ∙ ap (λ m. b + m) (scaled f (λ i. byte_worth (suc i) (get_or bs i 0)) (λ i. worth_next i (get_or bs i 0)) k ∙ ap (λ m. 256 * m) r)

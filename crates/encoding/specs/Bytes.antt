@@ -1,4 +1,4 @@
--- Numbers as little-endian bytes, and back; src/little_endian.rt cites it. Assumes nothing.
+-- Numbers as little-endian bytes, and back; whoever writes or reads bytes cites it. Assumes nothing.
 use Rattle.std.specs.Prelude.{ℕ, zero, suc, ◌+◌, ◌*◌, ◌/◌, ◌%◌, ◌<◌, List, [], ◌∷◌}
 
 -- the lowest so many bytes of a number, the lowest first

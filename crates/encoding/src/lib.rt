@@ -2,4 +2,3 @@
 #![tactic(auto)]
 
 pub mod cursor;
-pub mod little_endian;

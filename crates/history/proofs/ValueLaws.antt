@@ -4,5 +4,5 @@ use Rattle.values.specs.declared.value.Value.{Ghosts as Kind}
 use Rattle.history.specs.Layout.{coding}
 use Rattle.history.specs.Laws.{Lawful}
 
-pub lawful : {V C : Type 0} (k : Kind V C) → ((v : V) → length (k.bytes v) ≡ k.width) → ((v : V) → k.parsed (k.bytes v) ≡ Some v) → Lawful (coding k)
+pub lawful : {V C : Type 0} (k : Kind V C) → ((v : V) → length (k.bytes v) ≡ k.WIDTH) → ((v : V) → k.parsed (k.bytes v) ≡ Some v) → Lawful (coding k)
 lawful k wide back = record { wide = wide; apart = λ v w e. (let a = back v in let b = back w in let m = ap k.parsed e in cc) }

@@ -18,7 +18,7 @@ pub record Coding (V : Type 0) : Type 0 where
 
 -- that of a type of values
 abbrev pub coding : {V C : Type 0} → Kind V C → Coding V
-coding k = record { bytes = k.bytes; kind = k.kind; width = k.width }
+coding k = record { bytes = k.bytes; kind = k.KIND; width = k.WIDTH }
 
 -- the kind of the head frame
 abbrev pub head_frame : ℕ

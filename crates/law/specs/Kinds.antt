@@ -8,7 +8,7 @@ use Rattle.history.specs.Layout.{Coding, coding}
 -- what the kind says of itself, as its implementation has it
 abbrev pub amount_kind : Kind Amount AmountCell
 amount_kind =
-    record { kind = 1; width = 10; bytes = amount_bytes; parsed = amount_in; cell = amount_cell; restored = amount_in_cell; fallback = spare_amount }
+    record { KIND = 1; WIDTH = 10; bytes = amount_bytes; parsed = amount_in; cell = amount_cell; restored = amount_in_cell; fallback = spare_amount }
 
 -- what an archive needs of it
 abbrev pub amounts : Coding Amount

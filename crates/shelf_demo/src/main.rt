@@ -1,9 +1,12 @@
 // Both shelves with both kinds of value: what they give back, what they refuse, and what the lent memory holds afterwards.
 #![tactic(auto)]
 
-ghost use Rattle.std.specs.Prelude.{◌≡◌, ◌<◌, ◌≤◌, [], ◌++◌, length, drop, Ok, slice_set};
+ghost use Rattle.std.specs.Prelude.{◌≡◌, ◌<◌, ◌≤◌, [], ◌++◌, length, drop, Some, None, Ok, slice_set};
+ghost use Rattle.std.specs.Option.{option_map_or};
 ghost use Rattle.encoding.specs.Frames.{frame};
 ghost use Rattle.shelves.specs.Adding.{if_full};
+ghost use Rattle.shelves.specs.Faults.{shelf_fault_number};
+ghost use Rattle.shelves.specs.declared.fault.ShelfFault.TheVariants.{Full, NoSuchPlace};
 ghost use Rattle.values.specs.Amounts.{amount_bytes};
 
 use shelves::any_shelf::add_then_fetch;
@@ -33,24 +36,25 @@ fn store_in_bytes(bytes: &mut [u8], amount: Amount)
     let _ = shelf.add(amount);
 }
 
-// The number of the refusal of a value that is added, or 0.
-fn refusal_to_add<S: Shelf>(shelf: &mut S, value: S::Value) -> u8
-    ensures { result ≡ if_full (S.Shelf.items shelf.old) (S.Shelf.room shelf.old) 13 0 }
+// Why a value that is added is refused, if it is.
+fn refusal_to_add<S: Shelf>(shelf: &mut S, value: S::Value) -> Option<ShelfFault>
+    ensures { result ≡ if_full (S.Shelf.items shelf.old) (S.Shelf.room shelf.old) (Some Full) None }
 {
-    match shelf.add(value) {
-        Ok(_) => 0,
-        Err(fault) => fault.number(),
-    }
+    shelf.add(value).err()
 }
 
-// The number of the refusal of the place behind the last, which every shelf lacks.
-fn refusal_to_fetch<S: Shelf>(shelf: &S) -> u8
-    ensures { result ≡ 21 }
+// Why the place behind the last is refused, which every shelf lacks.
+fn refusal_to_fetch<S: Shelf>(shelf: &S) -> Option<ShelfFault>
+    ensures { result ≡ Some NoSuchPlace }
 {
-    match shelf.fetch(shelf.len()) {
-        Ok(_) => 0,
-        Err(fault) => fault.number(),
-    }
+    shelf.fetch(shelf.len()).err()
+}
+
+// What is written of a refusal: its number, or 0 for none.
+fn number(refusal: Option<ShelfFault>) -> u8
+    ensures { result ≡ option_map_or shelf_fault_number refusal 0 }
+{
+    refusal.map_or(0, |fault| fault.number())
 }
 
 // Fills a shelf with room for two: gives back the second value, and the numbers of the refusals of a third and of a place that the shelf lacks.
@@ -64,7 +68,8 @@ fn fill<S: Shelf>(
     shelf.add(first)?;
     let again = add_then_fetch(shelf, second)?;
     let full = refusal_to_add(shelf, first);
-    Ok((again, full, refusal_to_fetch(shelf)))
+    let missing = refusal_to_fetch(shelf);
+    Ok((again, number(full), number(missing)))
 }
 
 // Writes bytes in hexadecimal.
@@ -78,10 +83,7 @@ fn show(rt: &HostRuntime, bytes: &[u8]) -> io::Result<()> {
 
 // Amounts in cells and in bytes.
 fn amounts(rt: &HostRuntime, first: Amount, second: Amount) -> io::Result<()> {
-    let mut cells = [AmountCell {
-        currency: 0,
-        units: 0,
-    }; 2];
+    let mut cells = [AmountCell::default(); 2];
     let kept = fill(&mut CellShelf::new(&mut cells), first, second);
     println!(rt; "amounts in cells: {kept:?}")?;
     let mut bytes = [255; 34];
@@ -92,10 +94,7 @@ fn amounts(rt: &HostRuntime, first: Amount, second: Amount) -> io::Result<()> {
 
 // Standings in cells and in bytes.
 fn standings(rt: &HostRuntime, first: Standing, second: Standing) -> io::Result<()> {
-    let mut cells = [StandingCell {
-        state: 0,
-        number: 0,
-    }; 2];
+    let mut cells = [StandingCell::default(); 2];
     let kept = fill(&mut CellShelf::new(&mut cells), first, second);
     println!(rt; "standings in cells: {kept:?}")?;
     let mut bytes = [255; 22];
@@ -109,7 +108,7 @@ fn refusals(rt: &HostRuntime) -> io::Result<()> {
     if let Err(fault) = Amount::from_numbers(756, 1) {
         println!(rt; "currency 756: {}", fault.number())?;
     }
-    if let Err(fault) = <Amount as Value>::decode(&[0; 9]) {
+    if let Err(fault) = Amount::decode(&[0; 9]) {
         println!(rt; "nine bytes: {}", fault.number())?;
     }
     if let Err(fault) = Reason::new(100) {
@@ -119,19 +118,16 @@ fn refusals(rt: &HostRuntime) -> io::Result<()> {
 }
 
 fn main(rt: HostRuntime) -> io::Result<()> {
-    if let Ok(dollars) = Amount::new(Currency::Usd, 41_200) {
-        if let Ok(yen) = Amount::new(Currency::Jpy, -1) {
-            amounts(&rt, dollars, yen)?;
-            let mut bytes = [255; 18];
-            store_in_bytes(&mut bytes, dollars);
-            show(&rt, &bytes)?;
-            let mut cells = [AmountCell {
-                currency: 0,
-                units: 0,
-            }; 2];
-            store_in_cells(&mut cells, yen);
-            println!(rt; "cells: {cells:?}")?;
-        }
+    if let Ok(dollars) = Amount::new(Currency::Usd, 41_200)
+        && let Ok(yen) = Amount::new(Currency::Jpy, -1)
+    {
+        amounts(&rt, dollars, yen)?;
+        let mut bytes = [255; 18];
+        store_in_bytes(&mut bytes, dollars);
+        show(&rt, &bytes)?;
+        let mut cells = [AmountCell::default(); 2];
+        store_in_cells(&mut cells, yen);
+        println!(rt; "cells: {cells:?}")?;
     }
     if let Ok(reason) = Reason::new(99) {
         standings(

@@ -52,21 +52,21 @@ module _ {V C : Type 0} (kind : Kind V C) where
       ∙ ap (λ x. Some x) (get_or-map-range_with_len (value_in_frame kind bs) 0 (min n (frames_in kind (length bs))) i i kind.fallback h (omega arith)))
 
   -- a frame behind the first n: as many bytes, the same values, and the frame's
-  pub values_more : (n : ℕ) (bs : List ℕ) (v : V) (new : List ℕ) → n < frames_in kind (length bs) → length (kind.bytes v) ≡ kind.width → kind.parsed (kind.bytes v) ≡ Some v
+  pub values_more : (n : ℕ) (bs : List ℕ) (v : V) (new : List ℕ) → n < frames_in kind (length bs) → length (kind.bytes v) ≡ kind.WIDTH → kind.parsed (kind.bytes v) ≡ Some v
       → new ≡ with_frame kind bs n v
       → (length new ≡ length bs) × (values_in kind (n + 1) new ≡ values_in kind n bs ++ v ∷ [])
   values_more n bs v new h e p f =
-      let w = kind.width in
+      let w = kind.WIDTH in
       let s = frame_size kind in
       let body = kind.bytes v in
-      let framed = frame kind.kind body in
+      let framed = frame kind.KIND body in
       let end : n * s + s ≤ length bs = within s (length bs) n h in
       let front : length (take (n * s) bs) ≡ n * s = length-take-le (n * s) bs (omega arith) in
       let rest : length (drop (n * s + s) bs) ≡ length bs - (n * s + s) = length-drop (n * s + s) bs in
       let len : length new ≡ length bs = ap length f ∙ simp length-append (omega (arith, front, rest, end, e)) in
       let mid : take w (drop (n * s + frame_head) new) ≡ body =
       ap (λ x. take w (drop (n * s + frame_head) x)) f
-      ∙ part_in (take (n * s) bs) (little_endian 4 (2 + length body) ++ little_endian 2 kind.kind) body (drop (n * s + s) bs) (n * s + frame_head) w (omega arith) e in
+      ∙ part_in (take (n * s) bs) (little_endian 4 (2 + length body) ++ little_endian 2 kind.KIND) body (drop (n * s + s) bs) (n * s + frame_head) w (omega arith) e in
       let here : value_in_frame kind new n ≡ v = ap (λ x. unwrap_or (kind.parsed x) kind.fallback) mid ∙ ap (λ o. unwrap_or o kind.fallback) p in
       let there : (k : ℕ) → k < n → value_in_frame kind new k ≡ value_in_frame kind bs k =
       λ k l. ap (λ x. unwrap_or (kind.parsed x) kind.fallback) (ap (λ x. take w (drop (k * s + frame_head) x)) f

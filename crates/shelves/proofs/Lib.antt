@@ -1,3 +1,1 @@
-pub mod Added
-pub mod CellRows
 pub mod FrameRows

@@ -11,7 +11,7 @@ use Rattle.shelves.specs.declared.byte_shelf.ByteShelf.{ByteShelf}
 module _ {V C : Type 0} (kind : Kind V C) where
   -- the bytes of a frame of the kind
   abbrev pub frame_size : ℕ
-  frame_size = kind.width + frame_head
+  frame_size = kind.WIDTH + frame_head
 
   -- how many frames are used in so many bytes
   abbrev pub frames_in : ℕ → ℕ
@@ -19,7 +19,7 @@ module _ {V C : Type 0} (kind : Kind V C) where
 
   -- the value in the body of the frame at a place, or the spare value where it holds none
   abbrev pub value_in_frame : List ℕ → ℕ → V
-  value_in_frame bs place = unwrap_or (kind.parsed (take kind.width (drop (place * frame_size + frame_head) bs))) kind.fallback
+  value_in_frame bs place = unwrap_or (kind.parsed (take kind.WIDTH (drop (place * frame_size + frame_head) bs))) kind.fallback
 
   -- the values in the first n frames, as far as there is room
   abbrev pub values_in : ℕ → List ℕ → List V
@@ -27,7 +27,7 @@ module _ {V C : Type 0} (kind : Kind V C) where
 
   -- the bytes with the frame of a value at a place, and all others as before
   abbrev pub with_frame : List ℕ → ℕ → V → List ℕ
-  with_frame bs place value = take (place * frame_size) bs ++ (frame kind.kind (kind.bytes value) ++ drop (place * frame_size + frame_size) bs)
+  with_frame bs place value = take (place * frame_size) bs ++ (frame kind.KIND (kind.bytes value) ++ drop (place * frame_size + frame_size) bs)
 
   -- how many values there is room for
   abbrev pub byte_room : ByteShelf V C → ℕ

@@ -7,7 +7,6 @@ ghost use Rattle.shelves.specs.FramedBytes.{frame_size, frames_in, value_in_fram
 use crate::fault::ShelfFault;
 use crate::room::room_of;
 use crate::shelf::Shelf;
-use encoding::little_endian::{put_u16, put_u32};
 use std::marker::PhantomData;
 use values::value::Value;
 
@@ -83,15 +82,16 @@ impl<'a, V: Value> Shelf for ByteShelf<'a, V> {
 fn frames_in<V: Value>(bytes: usize) -> usize
     ensures { result ≡ frames_in V.Value bytes }
 {
-    room_of(bytes / (V::byte_width() + FRAME_HEAD))
+    room_of(bytes / (V::WIDTH + FRAME_HEAD))
 }
 
 // Writes the frame of a value at a place.
+// No `chunks_exact_mut(size).nth(place)`: it gives an `Option`, though each place that is asked for has a frame.
 fn put_frame<V: Value>(bytes: &mut [u8], place: usize, value: V)
     requires { place < frames_in V.Value (length bytes.old) }
     ensures { bytes.new ≡ with_frame V.Value bytes.old place value }
 {
-    let size = V::byte_width() + FRAME_HEAD;
+    let size = V::WIDTH + FRAME_HEAD;
     let start = place * size;
     write_frame(&mut bytes[start..start + size], value);
 }
@@ -99,12 +99,11 @@ fn put_frame<V: Value>(bytes: &mut [u8], place: usize, value: V)
 // Fills a part with the frame of a value.
 fn write_frame<V: Value>(out: &mut [u8], value: V)
     requires { length out.old ≡ frame_size V.Value }
-    ensures { out.new ≡ frame V.Value.kind (V.Value.bytes value) }
+    ensures { out.new ≡ frame V.Value.KIND (V.Value.bytes value) }
 {
-    let width = V::byte_width();
-    put_u32(&mut out[0..4], width as u32 + 2);
-    put_u16(&mut out[4..6], V::kind_number());
-    value.encode(&mut out[6..width + 6]);
+    out[..4].copy_from_slice(&(V::WIDTH as u32 + 2).to_le_bytes());
+    out[4..6].copy_from_slice(&V::KIND.to_le_bytes());
+    value.encode(&mut out[6..]);
 }
 
 // The value in the frame at a place, or the spare value if it holds none.
@@ -112,10 +111,6 @@ fn frame_value<V: Value>(bytes: &[u8], place: usize) -> V
     requires { place < frames_in V.Value (length bytes.now) }
     ensures { result ≡ value_in_frame V.Value bytes.now place }
 {
-    let width = V::byte_width();
-    let start = place * (width + FRAME_HEAD) + FRAME_HEAD;
-    match V::decode(&bytes[start..start + width]) {
-        Ok(value) => value,
-        Err(_) => V::spare(),
-    }
+    let start = place * (V::WIDTH + FRAME_HEAD) + FRAME_HEAD;
+    V::decode(&bytes[start..start + V::WIDTH]).unwrap_or(V::spare())
 }

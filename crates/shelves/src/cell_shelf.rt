@@ -48,7 +48,7 @@ impl<'a, V: Value> Shelf for CellShelf<'a, V> {
         if place >= room_of(self.cells.len()) {
             return Err(ShelfFault::Full);
         }
-        put_value(self.cells, place, value);
+        self.cells[place] = value.to_cell();
         self.len = place + 1;
         Ok(place as u64)
     }
@@ -57,7 +57,7 @@ impl<'a, V: Value> Shelf for CellShelf<'a, V> {
         if place >= self.len() {
             return Err(ShelfFault::NoSuchPlace);
         }
-        Ok(value_at(self.cells, place as usize))
+        Ok(V::from_cell(self.cells[place as usize]).unwrap_or(V::spare()))
     }
 
     fn len(&self) -> u64 {
@@ -66,24 +66,5 @@ impl<'a, V: Value> Shelf for CellShelf<'a, V> {
 
     fn capacity(&self) -> u64 {
         room_of(self.cells.len()) as u64
-    }
-}
-
-// Writes the cell of a value at a place.
-fn put_value<V: Value>(cells: &mut [V::Cell], place: usize, value: V)
-    requires { place < length cells.old }
-    ensures { cells.new ≡ slice_set cells.old place (V.Value.cell value) }
-{
-    cells[place] = value.to_cell();
-}
-
-// The value that the cell at a place holds, or the spare value if it holds none.
-fn value_at<V: Value>(cells: &[V::Cell], place: usize) -> V
-    requires { place < length cells.now }
-    ensures { (d : V.Cell) → result ≡ value_in V.Value (slice_index_or cells.now place d) }
-{
-    match V::from_cell(cells[place]) {
-        Ok(value) => value,
-        Err(_) => V::spare(),
     }
 }

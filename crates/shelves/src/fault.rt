@@ -2,13 +2,13 @@
 ghost use Rattle.std.specs.Prelude.{◌≡◌};
 ghost use Rattle.shelves.specs.Faults.{shelf_fault_number};
 
-// A refusal of a shelf.
+// A refusal of a shelf, with its number.
 #[derive(Clone, Copy, PartialEq, Eq, Debug)]
 pub enum ShelfFault {
     // the shelf holds as many values as it has room for
-    Full,
+    Full = 13,
     // no value was added at the place
-    NoSuchPlace,
+    NoSuchPlace = 21,
 }
 
 impl ShelfFault {
@@ -16,9 +16,6 @@ impl ShelfFault {
     pub fn number(&self) -> u8
         ensures { result ≡ shelf_fault_number self.now }
     {
-        match self {
-            ShelfFault::Full => 13,
-            ShelfFault::NoSuchPlace => 21,
-        }
+        *self as u8
     }
 }

@@ -1,12 +1,12 @@
 -- An amount is its two numbers; its bytes and its cell give it back.
-use Rattle.std.specs.Prelude.{◌≡◌, ℕ, ◌^◌, ◌<◌, Bool, true, false, cond, T, List, ◌++◌, length, take, drop, ℤ, pos, negsuc, ◌≤ℤ◌, Some, None, Option, FitsSigned, ◌==◌, int_le, refl}
+use Rattle.std.specs.Prelude.{◌≡◌, ℕ, ◌^◌, ◌<◌, Bool, true, false, T, List, ◌++◌, length, take, drop, ℤ, pos, negsuc, ◌≤ℤ◌, Some, None, Option, FitsSigned, ◌==◌, int_le, refl}
 use Rattle.std.proofs.Common.{sym, ap, subst, ◌∙◌, arith, take-append-drop, of_z, to_z}
 use mathlib.Core.HLevel.{is_prop→PathP}
 use Rattle.std.proofs.Props.{props}
 use Rattle.std.specs.Int.{w64}
 use Rattle.std.proofs.lemmas.List.{length-take-le, length-drop, take_all}
 use Rattle.std.proofs.lemmas.Int.{ints, to_z-of_z, of_z-to_z}
-use Rattle.std.proofs.lemmas.Bool.{eqb-true, eq-eqb, cond-true}
+use Rattle.std.proofs.lemmas.Bool.{eq-eqb, cond-true}
 use Rattle.std.specs.Option.{ok_or}
 use Rattle.std.specs.Result.{result_ok}
 use Rattle.encoding.specs.Bytes.{little_endian, from_little_endian, Octets}
@@ -45,15 +45,12 @@ tested_is c z false false p q a e f = absurd (clash (int_le least_units z) p (su
 pub amount_of_is : (a : Amount) (c : Currency) (z : ℤ) → a.currency ≡ c → a.units ≡ z → amount_of c z ≡ Some a
 amount_of_is a c z e f = tested_is c z _ _ refl refl a e f
 
-tested_some : (c : Currency) (z : ℤ) (b d : Bool) (p : int_le least_units z ≡ b) (q : int_le z most_units ≡ d) (a : Amount) → amount_tested c z b d p q ≡ Some a → (a.currency ≡ c) × (a.units ≡ z)
-tested_some c z true true p q a e = (cc, cc)
-tested_some c z true false p q a e = (cc, cc)
-tested_some c z false true p q a e = (cc, cc)
-tested_some c z false false p q a e = (cc, cc)
+made_some : (c : Currency) (z : ℤ) (a : Amount) → amount_of c z ≡ Some a → (a.currency ≡ c) × (a.units ≡ z)
+made_some c z a e = grind arith
 
 in_currency_some : (o : Option Currency) (n : ℕ) (z : ℤ) (a : Amount) → currency_of n ≡ o → result_ok (amount_in_currency (ok_or o UnlistedCurrency) z) ≡ Some a → (currency_number a.currency ≡ n) × (a.units ≡ z)
 in_currency_some (Some c) n z a p e =
-    let m = tested_some c z _ _ refl refl a (sym (ok_part_of_ok_or (amount_of c z) OutOfRange) ∙ e) in
+    let m = made_some c z a (sym (ok_part_of_ok_or (amount_of c z) OutOfRange) ∙ e) in
     (ap currency_number m.0 ∙ number_of_its_currency n c p, m.1)
 in_currency_some None n z a p e = (cc, cc)
 
@@ -87,15 +84,11 @@ parsed_bytes a =
     ∙ ap (amount_if_any n) (to_z-of_z w64 a.units (units_fit a))
     ∙ if_any_is a
 
-of_ten : (s : List ℕ) (a : Amount) (o : Option Amount) (b : Bool) → (length s == 10) ≡ b → cond b o None ≡ Some a → (length s ≡ 10) × (o ≡ Some a)
-of_ten s a o true p e = (eqb-true (length s) 10 p, e)
-of_ten s a o false p e = (cc, cc)
-
 pub bytes_parsed : (s : List ℕ) (a : Amount) → Octets s → amount_in s ≡ Some a → amount_bytes a ≡ s
 bytes_parsed s a o e =
     let n = from_little_endian (take 2 s) in
     let k = from_little_endian (drop 2 s) in
-    let t = of_ten s a (amount_if_any n (to_z w64 k)) (length s == 10) refl e in
+    let t : (length s ≡ 10) × (amount_if_any n (to_z w64 k) ≡ Some a) = grind arith in
     let m = if_any_some n (to_z w64 k) a t.1 in
     let front : length (take 2 s) ≡ 2 = length-take-le 2 s (omega (arith, t.0)) in
     let back : length (drop 2 s) ≡ 8 = omega (arith, t.0, length-drop 2 s) in

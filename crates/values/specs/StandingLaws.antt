@@ -1,10 +1,10 @@
 -- A standing is its two numbers; its bytes and its cell give it back.
-use Rattle.std.specs.Prelude.{◌≡◌, ℕ, ◌<◌, ◌≤◌, Bool, true, false, cond, ltb, leb, List, [], ◌∷◌, length, take, drop, Some, None, ◌==◌, nat_le, nat_lt, slice_index, refl}
+use Rattle.std.specs.Prelude.{◌≡◌, ℕ, ◌<◌, ◌≤◌, Bool, true, false, ltb, leb, List, [], ◌∷◌, length, take, drop, Some, ◌==◌, nat_le, nat_lt, slice_index, refl}
 use Rattle.std.proofs.Common.{sym, ap, ◌∙◌, arith}
 use mathlib.Core.HLevel.{is_prop→PathP}
 use Rattle.std.proofs.Math.Bridge.{le_prop}
 use Rattle.std.proofs.lemmas.List.{length-drop, take_all}
-use Rattle.std.proofs.lemmas.Bool.{eqb-true, eq-eqb, ltb-false, leb-false, cond-true}
+use Rattle.std.proofs.lemmas.Bool.{eq-eqb, ltb-false, leb-false, cond-true}
 use Rattle.std.specs.Option.{option_map}
 use Rattle.encoding.specs.Bytes.{little_endian, from_little_endian, Octets}
 use Rattle.values.specs.Limits.{days, most_reason}
@@ -45,40 +45,9 @@ standing_of_is (Lodged d) = ap (option_map (λ x. Lodged x)) (day_of_is d d.numb
 standing_of_is (Released d) = ap (option_map (λ x. Released x)) (day_of_is d d.number refl)
 standing_of_is (Stopped r) = ap (option_map (λ x. Stopped x)) (reason_of_is r r.number refl)
 
-some_same : {X : Type 0} (x y : X) → Some x ≡ Some y → x ≡ y
-some_same x y e = cc
-
--- equal standings have equal numbers; then the three states one by one, and the tests of the state in their order
-numbers : (u v : Standing) → Some u ≡ Some v → (standing_state v ≡ standing_state u) × (standing_number v ≡ standing_number u)
-numbers u v e = let q = some_same u v e in (ap standing_state (sym q), ap standing_number (sym q))
-
-lodged_some : (n : ℕ) (b : Bool) (e : ltb n days ≡ b) (v : Standing) → option_map (λ x. Lodged x) (day_tested n b e) ≡ Some v → (standing_state v ≡ 1) × (standing_number v ≡ n)
-lodged_some n true e v h = numbers _ v h
-lodged_some n false e v h = (cc, cc)
-
-released_some : (n : ℕ) (b : Bool) (e : ltb n days ≡ b) (v : Standing) → option_map (λ x. Released x) (day_tested n b e) ≡ Some v → (standing_state v ≡ 2) × (standing_number v ≡ n)
-released_some n true e v h = numbers _ v h
-released_some n false e v h = (cc, cc)
-
-stopped_some : (n : ℕ) (b : Bool) (e : leb n most_reason ≡ b) (v : Standing) → option_map (λ x. Stopped x) (reason_tested n b e) ≡ Some v → (standing_state v ≡ 3) × (standing_number v ≡ n)
-stopped_some n true e v h = numbers _ v h
-stopped_some n false e v h = (cc, cc)
-
-third : (k n : ℕ) (v : Standing) (b : Bool) → (k == 3) ≡ b → cond b (option_map (λ x. Stopped x) (reason_of n)) None ≡ Some v → (standing_state v ≡ k) × (standing_number v ≡ n)
-third k n v true e h = let m = stopped_some n _ refl v h in (m.0 ∙ sym (eqb-true k 3 e), m.1)
-third k n v false e h = (cc, cc)
-
-second : (k n : ℕ) (v : Standing) (b : Bool) → (k == 2) ≡ b → cond b (option_map (λ x. Released x) (day_of n)) (cond (k == 3) (option_map (λ x. Stopped x) (reason_of n)) None) ≡ Some v → (standing_state v ≡ k) × (standing_number v ≡ n)
-second k n v true e h = let m = released_some n _ refl v h in (m.0 ∙ sym (eqb-true k 2 e), m.1)
-second k n v false e h = third k n v (k == 3) refl h
-
-first : (k n : ℕ) (v : Standing) (b : Bool) → (k == 1) ≡ b → cond b (option_map (λ x. Lodged x) (day_of n)) (cond (k == 2) (option_map (λ x. Released x) (day_of n)) (cond (k == 3) (option_map (λ x. Stopped x) (reason_of n)) None)) ≡ Some v → (standing_state v ≡ k) × (standing_number v ≡ n)
-first k n v true e h = let m = lodged_some n _ refl v h in (m.0 ∙ sym (eqb-true k 1 e), m.1)
-first k n v false e h = second k n v (k == 2) refl h
-
 -- the numbers of a standing that is made from numbers
 pub standing_of_some : (k n : ℕ) (v : Standing) → standing_of k n ≡ Some v → (standing_state v ≡ k) × (standing_number v ≡ n)
-standing_of_some k n v h = first k n v (k == 1) refl h
+standing_of_some k n v h = grind arith
 
 -- the bytes are the state's number and four bytes of the day or the reason
 reason_bytes : (n : ℕ) → n ≤ most_reason → n ∷ 0 ∷ 0 ∷ 0 ∷ [] ≡ little_endian 4 n
@@ -103,17 +72,13 @@ bytes_length v = ap length (bytes_are v)
 pub parsed_bytes : (v : Standing) → standing_in (standing_bytes v) ≡ Some v
 parsed_bytes v = ap standing_in (bytes_are v) ∙ ap (standing_of (standing_state v)) (number_of_little_endian 4 (standing_number v) (number_small v)) ∙ standing_of_is v
 
-of_five : (s : List ℕ) (v : Standing) (b : Bool) → (length s == 5) ≡ b → cond b (standing_of (slice_index s 0) (from_little_endian (drop 1 s))) None ≡ Some v → (length s ≡ 5) × (standing_of (slice_index s 0) (from_little_endian (drop 1 s)) ≡ Some v)
-of_five s v true p e = (eqb-true (length s) 5 p, e)
-of_five s v false p e = (cc, cc)
-
 first_rest : (s : List ℕ) → 0 < length s → slice_index s 0 ∷ drop 1 s ≡ s
 first_rest [] h = absurd (omega arith)
 first_rest (b ∷ bs) h = refl
 
 pub bytes_parsed : (s : List ℕ) (v : Standing) → Octets s → standing_in s ≡ Some v → standing_bytes v ≡ s
 bytes_parsed s v o e =
-    let t = of_five s v (length s == 5) refl e in
+    let t : (length s ≡ 5) × (standing_of (slice_index s 0) (from_little_endian (drop 1 s)) ≡ Some v) = grind arith in
     let m = standing_of_some (slice_index s 0) (from_little_endian (drop 1 s)) v t.1 in
     let back : length (drop 1 s) ≡ 4 = omega (arith, t.0, length-drop 1 s) in
     bytes_are v

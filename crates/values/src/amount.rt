@@ -22,7 +22,7 @@ pub struct Amount {
 }
 
 // The numbers of an amount, with no limits: an ISO 4217 number and the units.
-#[derive(Clone, Copy, PartialEq, Eq, Debug)]
+#[derive(Clone, Copy, PartialEq, Eq, Debug, Default)]
 pub struct AmountCell {
     pub currency: u16,
     pub units: i64,

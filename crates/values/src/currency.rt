@@ -6,15 +6,15 @@ ghost use Rattle.values.specs.declared.fault.ValueFault.TheVariants.{UnlistedCur
 
 use crate::fault::ValueFault;
 
-// A currency of ISO 4217 that amounts may be in.
+// A currency of ISO 4217 that amounts may be in, with its number.
 #[derive(Clone, Copy, PartialEq, Eq, Debug)]
 pub enum Currency {
-    Usd,
-    Eur,
-    Gbp,
-    Hrk,
-    Jpy,
-    Kwd,
+    Usd = 840,
+    Eur = 978,
+    Gbp = 826,
+    Hrk = 191,
+    Jpy = 392,
+    Kwd = 414,
 }
 
 impl Currency {
@@ -22,14 +22,7 @@ impl Currency {
     pub fn number(self) -> u16
         ensures { result ≡ currency_number self }
     {
-        match self {
-            Currency::Usd => 840,
-            Currency::Eur => 978,
-            Currency::Gbp => 826,
-            Currency::Hrk => 191,
-            Currency::Jpy => 392,
-            Currency::Kwd => 414,
-        }
+        self as u16
     }
 
     // How many digits after the point an amount in the currency is written with.
@@ -42,11 +35,15 @@ impl Currency {
             Currency::Kwd => 3,
         }
     }
+}
+
+impl TryFrom<u64> for Currency {
+    type Error = ValueFault;
+
+    ghost try_from_gives = { λ number r. r ≡ ok_or (currency_of number) UnlistedCurrency };
 
     // The listed currency with an ISO 4217 number; refused (15) if there is none.
-    pub fn from_number(number: u64) -> Result<Currency, ValueFault>
-        ensures { result ≡ ok_or (currency_of number) UnlistedCurrency }
-    {
+    fn try_from(number: u64) -> Result<Currency, ValueFault> {
         match number {
             840 => Ok(Currency::Usd),
             978 => Ok(Currency::Eur),

@@ -2,15 +2,15 @@
 ghost use Rattle.std.specs.Prelude.{◌≡◌};
 ghost use Rattle.values.specs.Faults.{value_fault_number};
 
-// A refusal to make a value from numbers or bytes.
+// A refusal to make a value from numbers or bytes, with its number.
 #[derive(Clone, Copy, PartialEq, Eq, Debug)]
 pub enum ValueFault {
     // the currency is not listed
-    UnlistedCurrency,
+    UnlistedCurrency = 15,
     // the bytes, or the numbers of a cell, are no value of the kind
-    NotAValue,
+    NotAValue = 16,
     // the units of an amount, or the number of a reason, are out of range
-    OutOfRange,
+    OutOfRange = 17,
 }
 
 impl ValueFault {
@@ -18,10 +18,6 @@ impl ValueFault {
     pub fn number(&self) -> u8
         ensures { result ≡ value_fault_number self.now }
     {
-        match self {
-            ValueFault::UnlistedCurrency => 15,
-            ValueFault::NotAValue => 16,
-            ValueFault::OutOfRange => 17,
-        }
+        *self as u8
     }
 }

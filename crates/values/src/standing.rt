@@ -30,7 +30,8 @@ pub enum Standing {
 }
 
 // The numbers of a standing, with no limits: 1, 2 or 3 for lodged, released or stopped, and the day or the reason.
-#[derive(Clone, Copy, PartialEq, Eq, Debug)]
+// A number and no enum for the state, since memory that a caller lends may hold any.
+#[derive(Clone, Copy, PartialEq, Eq, Debug, Default)]
 pub struct StandingCell {
     pub state: u8,
     pub number: u32,

@@ -8,17 +8,17 @@ use crate::fault::ValueFault;
 
 // A kind of value: a type whose values are encoded to a fixed number of bytes.
 pub trait Value: Copy {
-    // the kind's number, for code that knows the kind; kind_number() is for any kind
+    // the kind's number
     const KIND: u16;
-    // how many bytes a value is encoded to, for code that knows the kind; byte_width() is for any kind
+    // how many bytes a value is encoded to
     const WIDTH: usize;
     // a plain row of the kind's numbers with no limits of its own, as it may lie in memory that a caller lends
     type Cell: Copy;
 
-    // the kind's number
-    ghost kind: { ℕ };
-    // how many bytes a value is encoded to
-    ghost width: { ℕ };
+    // the two constants, for clauses and proofs
+    ghost KIND: { ℕ };
+
+    ghost WIDTH: { ℕ };
     // the bytes that a value is encoded to
     ghost bytes: { Self → List ℕ };
     // the value that bytes decode to, if they are one's
@@ -31,18 +31,11 @@ pub trait Value: Copy {
     // a shelf holds only what was added to it, so the spare value never shows
     ghost fallback: { Self };
 
-    // The kind's number.
-    fn kind_number() -> u16
-        ensures { result ≡ kind };
-
-    // How many bytes a value is encoded to.
-    fn byte_width() -> usize
-        ensures { result ≡ width };
-
     // Writes the value's bytes if there is room for exactly these, else nothing; tells which.
+    // A `bool`: no refusal tells of a wrong length, and an `Option<()>` would say no more.
     fn encode(self, out: &mut [u8]) -> bool
-        ensures told { result ≡ (length out.old == width) }
-        ensures written { out.new ≡ (if nat_eq (length out.old) width then bytes self else out.old) };
+        ensures told { result ≡ (length out.old == WIDTH) }
+        ensures written { out.new ≡ (if nat_eq (length out.old) WIDTH then bytes self else out.old) };
 
     // The value whose bytes these are; refused (16) if they are no value's.
     fn decode(encoded: &[u8]) -> Result<Self, ValueFault>
@@ -60,13 +53,13 @@ pub trait Value: Copy {
     fn spare() -> Self
         ensures { result ≡ fallback };
 
-    ghost width_positive: { 0 < width };
+    ghost width_positive: { 0 < WIDTH };
 
-    ghost width_limit: { width ≤ 32 };
+    ghost width_limit: { WIDTH ≤ 32 };
 
-    ghost kind_limit: { kind < 65536 };
+    ghost kind_limit: { KIND < 65536 };
 
-    ghost bytes_width: { (v : Self) → length (bytes v) ≡ width };
+    ghost bytes_width: { (v : Self) → length (bytes v) ≡ WIDTH };
 
     ghost parsed_bytes: { (v : Self) → parsed (bytes v) ≡ Some v };
 

@@ -1,23 +1,22 @@
 // How amounts are made, and amounts as a kind of value.
-ghost use Rattle.std.specs.Prelude.{◌≡◌};
+ghost use Rattle.std.specs.Prelude.{◌≡◌, refl};
 ghost use Rattle.std.specs.Option.{ok_or};
 ghost use Rattle.values.specs.Amounts.{amount_of, amount_from_numbers, amount_bytes, amount_in, amount_cell, amount_in_cell, spare_amount};
 ghost use Rattle.values.specs.declared.fault.ValueFault.TheVariants.{OutOfRange};
 ghost use Rattle.values.specs.AmountLaws.{parsed_bytes, bytes_parsed, if_any_is, cell_restored};
-ghost use Rattle.std.proofs.Common.{rules, arith};
+ghost use Rattle.std.proofs.Common.{rules};
 
 use super::{Amount, AmountCell, LEAST_UNITS, MOST_UNITS};
 use crate::currency::Currency;
 use crate::fault::ValueFault;
 use crate::value::Value;
-use encoding::little_endian::{get_i64, get_u16, put_i64, put_u16};
 
 impl Amount {
     // The amount of so many units; refused (17) if they are out of range.
     pub fn new(currency: Currency, units: i64) -> Result<Amount, ValueFault>
         ensures { result ≡ ok_or (amount_of currency units) OutOfRange }
     {
-        if units >= LEAST_UNITS && units <= MOST_UNITS {
+        if (LEAST_UNITS..=MOST_UNITS).contains(&units) {
             Ok(Amount { currency, units })
         } else {
             Err(ValueFault::OutOfRange)
@@ -28,10 +27,7 @@ impl Amount {
     pub fn from_numbers(currency: u64, units: i64) -> Result<Amount, ValueFault>
         ensures { result ≡ amount_from_numbers currency units }
     {
-        let Ok(listed) = Currency::from_number(currency) else {
-            return Err(ValueFault::UnlistedCurrency);
-        };
-        Amount::new(listed, units)
+        Amount::new(Currency::try_from(currency)?, units)
     }
 
     // The currency.
@@ -57,9 +53,9 @@ impl Value for Amount {
 
     type Cell = AmountCell;
 
-    ghost kind = { 1 };
+    ghost KIND = { 1 };
 
-    ghost width = { 10 };
+    ghost WIDTH = { 10 };
 
     ghost bytes = { amount_bytes };
 
@@ -71,13 +67,13 @@ impl Value for Amount {
 
     ghost fallback = { spare_amount };
 
-    ghost width_positive = { first_of (Prim.search rules, Prim.grind (arith, Self.row.coded.inj)) };
+    ghost width_positive = { Prim.search rules };
 
-    ghost width_limit = { first_of (Prim.search rules, Prim.grind (arith, Self.row.coded.inj)) };
+    ghost width_limit = { Prim.search rules };
 
-    ghost kind_limit = { first_of (Prim.search rules, Prim.grind (arith, Self.row.coded.inj)) };
+    ghost kind_limit = { Prim.search rules };
 
-    ghost bytes_width = { first_of (Prim.search rules, Prim.grind (arith, Self.row.coded.inj)) };
+    ghost bytes_width = { λ _. refl };
 
     ghost parsed_bytes = { parsed_bytes };
 
@@ -87,32 +83,22 @@ impl Value for Amount {
 
     ghost cell_restored = { cell_restored };
 
-    fn kind_number() -> u16 {
-        Self::KIND
-    }
-
-    fn byte_width() -> usize {
-        Self::WIDTH
-    }
-
     fn encode(self, out: &mut [u8]) -> bool {
         if out.len() != Self::WIDTH {
             return false;
         }
-        put_u16(&mut out[0..2], self.currency.number());
-        put_i64(&mut out[2..10], self.units);
+        out[..2].copy_from_slice(&self.currency.number().to_le_bytes());
+        out[2..].copy_from_slice(&self.units.to_le_bytes());
         true
     }
 
     fn decode(encoded: &[u8]) -> Result<Amount, ValueFault> {
-        if encoded.len() != Self::WIDTH {
-            return Err(ValueFault::NotAValue);
-        }
-        let currency = get_u16(&encoded[0..2]);
-        let units = get_i64(&encoded[2..10]);
-        Amount::from_numbers(currency as u64, units)
-            .ok()
-            .ok_or(ValueFault::NotAValue)
+        let (currency, units) = encoded.split_first_chunk().ok_or(ValueFault::NotAValue)?;
+        let units = units.try_into().map_err(|_| ValueFault::NotAValue)?;
+        Amount::from_cell(AmountCell {
+            currency: u16::from_le_bytes(*currency),
+            units: i64::from_le_bytes(units),
+        })
     }
 
     fn to_cell(self) -> AmountCell {
@@ -123,9 +109,9 @@ impl Value for Amount {
     }
 
     fn from_cell(stored: AmountCell) -> Result<Amount, ValueFault> {
-        Amount::from_numbers(stored.currency as u64, stored.units)
-            .ok()
-            .ok_or(ValueFault::NotAValue)
+        Amount::from_numbers(stored.currency.into(), stored.units).map_err(
+            |_| ValueFault::NotAValue,
+        )
     }
 
     fn spare() -> Amount {

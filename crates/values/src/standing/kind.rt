@@ -9,7 +9,6 @@ ghost use Rattle.std.proofs.Common.{rules};
 use super::{Day, MOST_REASON, Reason, Standing, StandingCell};
 use crate::fault::ValueFault;
 use crate::value::Value;
-use encoding::little_endian::{get_u32, put_u32};
 
 const LODGED: u8 = 1;
 
@@ -54,45 +53,6 @@ impl Reason {
     }
 }
 
-impl Standing {
-    // The standing that the number of a state and the number of a day or a reason mean.
-    fn from_numbers(state: u8, number: u32) -> Option<Standing>
-        ensures { result ≡ standing_of state number }
-    {
-        match state {
-            LODGED => Some(Standing::Lodged(Day::new(number))),
-            RELEASED => Some(Standing::Released(Day::new(number))),
-            STOPPED => match Reason::new(number as u64) {
-                Ok(reason) => Some(Standing::Stopped(reason)),
-                Err(_) => None,
-            },
-            _ => None,
-        }
-    }
-
-    // The number of the state.
-    fn state(self) -> u8
-        ensures { result ≡ standing_state self }
-    {
-        match self {
-            Standing::Lodged(_) => LODGED,
-            Standing::Released(_) => RELEASED,
-            Standing::Stopped(_) => STOPPED,
-        }
-    }
-
-    // The number of the day or of the reason.
-    fn number(self) -> u32
-        ensures { result ≡ standing_number self }
-    {
-        match self {
-            Standing::Lodged(day) => day.number,
-            Standing::Released(day) => day.number,
-            Standing::Stopped(reason) => reason.number as u32,
-        }
-    }
-}
-
 // Kind 2: a byte for the state, and the day or the reason in four bytes.
 impl Value for Standing {
     const KIND: u16 = 2;
@@ -101,9 +61,9 @@ impl Value for Standing {
 
     type Cell = StandingCell;
 
-    ghost kind = { 2 };
+    ghost KIND = { 2 };
 
-    ghost width = { 5 };
+    ghost WIDTH = { 5 };
 
     ghost bytes = { standing_bytes };
 
@@ -131,40 +91,45 @@ impl Value for Standing {
 
     ghost cell_restored = { cell_restored };
 
-    fn kind_number() -> u16 {
-        Self::KIND
-    }
-
-    fn byte_width() -> usize {
-        Self::WIDTH
-    }
-
     fn encode(self, out: &mut [u8]) -> bool {
         if out.len() != Self::WIDTH {
             return false;
         }
-        out[0] = self.state();
-        put_u32(&mut out[1..5], self.number());
+        let cell = self.to_cell();
+        out[0] = cell.state;
+        out[1..].copy_from_slice(&cell.number.to_le_bytes());
         true
     }
 
     fn decode(encoded: &[u8]) -> Result<Standing, ValueFault> {
-        if encoded.len() != Self::WIDTH {
-            return Err(ValueFault::NotAValue);
-        }
-        let number = get_u32(&encoded[1..5]);
-        Standing::from_numbers(encoded[0], number).ok_or(ValueFault::NotAValue)
+        let (state, number) = encoded.split_first().ok_or(ValueFault::NotAValue)?;
+        let number = number.try_into().map_err(|_| ValueFault::NotAValue)?;
+        Standing::from_cell(StandingCell {
+            state: *state,
+            number: u32::from_le_bytes(number),
+        })
     }
 
     fn to_cell(self) -> StandingCell {
-        StandingCell {
-            state: self.state(),
-            number: self.number(),
-        }
+        let (state, number) = match self {
+            Standing::Lodged(day) => (LODGED, day.number),
+            Standing::Released(day) => (RELEASED, day.number),
+            Standing::Stopped(reason) => (STOPPED, reason.number.into()),
+        };
+        StandingCell { state, number }
     }
 
     fn from_cell(stored: StandingCell) -> Result<Standing, ValueFault> {
-        Standing::from_numbers(stored.state, stored.number).ok_or(ValueFault::NotAValue)
+        let number = stored.number;
+        match stored.state {
+            LODGED => Ok(Standing::Lodged(Day::new(number))),
+            RELEASED => Ok(Standing::Released(Day::new(number))),
+            STOPPED => {
+                let reason = Reason::new(number.into()).map_err(|_| ValueFault::NotAValue)?;
+                Ok(Standing::Stopped(reason))
+            }
+            _ => Err(ValueFault::NotAValue),
+        }
     }
 
     fn spare() -> Standing {

@@ -1,19 +1,12 @@
-use Rattle.std.proofs.Common.{◌≡◌, false, cond, eqb, length, is_some, sym, ap, ◌∙◌}
+use Rattle.std.proofs.Common.{rules}
 use Rattle.encoding.proofs.BytesLaws.{octets}
-use Rattle.values.specs.Reencoding.{reencodes}
 use Rattle.values.specs.Refusals.{some_from_ok}
 use Rattle.values.proofs.any_value.reencode.Goals as goal
 
-pub returns-in-Ok : goal.returns-in-Ok
-returns-in-Ok g c =
-    let m = g.V.Value in
+pub returns-in-Ok-clause-copied : goal.returns-in-Ok-clause-copied
+returns-in-Ok-clause-copied g c =
     let s = c.args.encoded.now in
-    let out = c.args.out.now in
     let v = c.in-Ok.value in
-    let p = some_from_ok (m.parsed s) _ v c.in-Ok.ensures in
-    let same = g.met.V.Value.bytes_parsed s v (octets s (λ i. (c.type_inv.encoded i).fits)) p in
-    let test : eqb (length out) m.width ≡ reencodes m s out = ap (λ o. cond (is_some o) (eqb (length out) m.width) false) (sym p) in
-    record {
-      told = c.encode.ensures.told ∙ test;
-      copied = c.encode.ensures.written ∙ ap (λ x. cond (eqb (length out) m.width) x out) same ∙ ap (λ b. cond b s out) test;
-    }
+    let parsed = some_from_ok (g.V.Value.parsed s) _ v c.in-Ok.ensures in
+    let same = g.met.V.Value.bytes_parsed s v (octets s (λ i. (c.type_inv.encoded i).fits)) parsed in
+    search rules

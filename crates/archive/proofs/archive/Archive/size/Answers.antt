@@ -9,5 +9,5 @@ use Rattle.archive.proofs.archive.Archive.size.Goals as goal
 pub returns : goal.returns
 returns g c =
     let rows = c.args.self.now.ledger.now.rows in
-    ap (λ n. 12 + n) (c.leaves_size.ensures ∙ ap (λ w. sum_by (λ x. row_size w (row_view x)) (filter (λ x. has_leaf (row_view x)) rows)) c.byte_width.ensures)
+    ap (λ n. 12 + n) (c.leaves_size.ensures ∙ ap (λ w. sum_by (λ x. row_size w (row_view x)) (filter (λ x. has_leaf (row_view x)) rows)) c.WIDTH.ensures)
     ∙ sym (archive_length (g.S.Shelf.items c.args.self.now.shelf.now) (coding g.S.Value.Value) (lawful g.S.Value.Value g.met.S.Value.Value.bytes_width g.met.S.Value.Value.parsed_bytes) rows c.args.self.now.complete)

@@ -1,11 +1,7 @@
-use Rattle.std.proofs.Common.{◌<◌, min, Ok, sym, ap, ◌∙◌, arith}
-use Rattle.shelves.specs.FramedBytes.{byte_items, byte_room}
-use Rattle.shelves.proofs.Added.{fetched_past}
+use Rattle.std.proofs.Common.{◌<◌, min, rules, arith}
+use Rattle.shelves.specs.FramedBytes.{byte_room}
 use Rattle.shelves.proofs.FrameRows.{length_values, fetched_value}
 use Rattle.shelves.proofs.byte_shelf.ByteShelfShelf.fetch.Goals as goal
-
-pub returns-then-place-len : goal.returns-then-place-len
-returns-then-place-len g c = sym (fetched_past (byte_items g.V.Value c.args.self.now) _ c.args.place (sym c.len.ensures) (omega arith))
 
 pub frame_value-requires : goal.frame_value-requires
 frame_value-requires g c = let s = c.args.self.now in omega (arith, length_values g.V.Value s.len s.bytes.now)
@@ -15,4 +11,5 @@ returns g c =
     let m = g.V.Value in
     let s = c.args.self.now in
     let h : c.args.place < min s.len (byte_room m s) = omega (arith, length_values m s.len s.bytes.now) in
-    ap (λ x. Ok x) c.frame_value.ensures ∙ sym (fetched_value m s.len s.bytes.now c.args.place h)
+    let found = fetched_value m s.len s.bytes.now c.args.place h in
+    search rules

@@ -5,5 +5,5 @@ use Rattle.values.specs.declared.fault.ValueFault.TheVariants.{OutOfRange}
 use Rattle.values.specs.AmountLaws.{amount_of_is}
 use Rattle.values.proofs.amount.Amount.new.Goals as goal
 
-pub returns-then-units-le-MOST_UNITS : goal.returns-then-units-le-MOST_UNITS
-returns-then-units-le-MOST_UNITS c = sym (ap (λ o. ok_or o OutOfRange) (amount_of_is _ c.args.currency c.args.units refl (to_z-of_z w64 c.args.units c.ranges.units)))
+pub returns-then-contains : goal.returns-then-contains
+returns-then-contains c = sym (ap (λ o. ok_or o OutOfRange) (amount_of_is _ c.args.currency c.args.units refl (to_z-of_z w64 c.args.units c.ranges.units)))
