@@ -7,14 +7,13 @@ use Rattle.ledger.specs.Opening.{open_fault, open_done, withdraw_fault, withdraw
 use Rattle.ledger.specs.Reading.{read_fault, read_source, read_done}
 use Rattle.ledger.specs.Writing.{write_fault, write_done}
 use Rattle.ledger.specs.declared.job.JobKind.{JobKind}
-use Rattle.ledger.specs.declared.reading.Source.{Source}
-use Rattle.ledger.specs.declared.reading.Source.TheVariants as source
+
 use Rattle.house.specs.Faults.{after_checks}
 use Rattle.house.specs.Model.{HouseModel, with_ledger}
 use Rattle.house.specs.declared.fault.Fault.{Fault}
 use Rattle.house.specs.declared.fault.Fault.TheVariants as fault
-use Rattle.house.specs.declared.reading.Reading.{Reading}
-use Rattle.house.specs.declared.reading.Reading.TheVariants as reading
+use Rattle.ledger.specs.declared.reading.Reading.{Reading}
+use Rattle.ledger.specs.declared.reading.Reading.TheVariants as reading
 
 -- what a write tells of what its shelf told
 abbrev pub shelved : Result ℕ ShelfFault → Result (Unit {0}) Fault
@@ -48,10 +47,10 @@ module _ {V : Type 0} where
   version_reading n (Ok v) = Ok (reading.Version n v)
   version_reading n (Err f) = Err (fault.Shelf f)
 
-  abbrev pub reading_from : List V → Source → Result (Reading V) Fault
-  reading_from items source.Blank = Ok reading.Blank
-  reading_from items (source.Own place) = own_reading (fetched items place)
-  reading_from items (source.Installed number place) = version_reading number (fetched items place)
+  abbrev pub reading_from : List V → Reading ℕ → Result (Reading V) Fault
+  reading_from items reading.Blank = Ok reading.Blank
+  reading_from items (reading.Own place) = own_reading (fetched items place)
+  reading_from items (reading.Version number place) = version_reading number (fetched items place)
 
   abbrev pub read_told : HouseModel V → ℕ → ℕ → Result (Reading V) Fault
   read_told m j r = after_checks (read_fault m.ledger j r) (reading_from m.items (read_source m.ledger (row m.ledger j) r))

@@ -10,7 +10,7 @@ use Rattle.house.specs.declared.call.Call.{Call}
 use Rattle.house.specs.declared.call.Call.TheVariants.{Open, Read, Write, HandIn, Deliver, Collect, Close, Withdraw, Archive}
 use Rattle.house.specs.declared.call.Told.{Told}
 use Rattle.house.specs.declared.call.Told.TheVariants as told
-use Rattle.house.specs.declared.reading.Reading.TheVariants as reading
+use Rattle.ledger.specs.declared.reading.Reading.TheVariants as reading
 use Rattle.ledger.specs.declared.job.Collected.TheVariants as collected
 
 abbrev pub contains : List ℕ → ℕ → Bool

@@ -10,7 +10,6 @@ use crate::reading::Reading;
 use ledger::job::{Collected, JobKind};
 use ledger::ledger::Ledger;
 use ledger::offices::Offices;
-use ledger::reading::Source;
 use shelves::shelf::Shelf;
 
 // The jobs and records of one forwarder, over a shelf of values.
@@ -53,19 +52,16 @@ impl<S: Shelf> House<S> {
         Ok(())
     }
 
-    fn fetch(&self, source: Source) -> Result<Reading<S::Value>, Fault>
+    fn fetch(&self, source: Reading<u64>) -> Result<Reading<S::Value>, Fault>
         ensures { result ≡ reading_from (S.items self.now.shelf) source }
     {
         match source {
-            Source::Blank => Ok(Reading::Blank),
-            Source::Own { place } => Ok(Reading::Own(self.shelf.fetch(place)?)),
-            Source::Installed { version, place } => {
-                let value = self.shelf.fetch(place)?;
-                Ok(Reading::Version {
-                    number: version,
-                    value,
-                })
-            }
+            Reading::Blank => Ok(Reading::Blank),
+            Reading::Own(place) => Ok(Reading::Own(self.shelf.fetch(place)?)),
+            Reading::Version { number, value } => Ok(Reading::Version {
+                number,
+                value: self.shelf.fetch(value)?,
+            }),
         }
     }
 

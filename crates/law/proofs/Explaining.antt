@@ -20,7 +20,7 @@ use Rattle.law.proofs.Tying.{version_told, ToldAsListed, Tied, matched}
 use Rattle.law.proofs.SerialLeaves.{among_contained, series, leaf_found}
 use Rattle.law.proofs.LogLeaves.{among_before, series_before, follows_before, Last, none_or_last, version_is}
 use Rattle.house.specs.declared.call.Told.TheVariants as told
-use Rattle.house.specs.declared.reading.Reading.TheVariants as reading
+use Rattle.ledger.specs.declared.reading.Reading.TheVariants as reading
 
 -- a listed version stands in the list
 has_read : (xs : List Read) (r n : ℕ) → first_unseen xs r ≡ suc n → Has {X = Read} xs (record { «record» = r; version = n })

@@ -17,15 +17,15 @@ use Rattle.house.specs.Model.{HouseModel}
 use Rattle.house.specs.Runs.{told_as, call_told, Event, Progress, begins, proceeds}
 use Rattle.house.specs.declared.call.Told.{Told}
 use Rattle.house.specs.declared.fault.Fault.{Fault}
-use Rattle.house.specs.declared.reading.Reading.{Reading}
+use Rattle.ledger.specs.declared.reading.Reading.{Reading}
 use Rattle.law.specs.Performing.{own_value, OwnTold}
 use Rattle.law.proofs.Entries.{value_of_valued}
 use Rattle.law.proofs.Tying.{passed, Tied}
 use Rattle.law.proofs.TyingCalls.{tied}
-use Rattle.ledger.specs.declared.reading.Source.TheVariants as source
+
 use Rattle.house.specs.declared.call.Call.TheVariants as call
 use Rattle.house.specs.declared.call.Told.TheVariants as told
-use Rattle.house.specs.declared.reading.Reading.TheVariants as reading
+use Rattle.ledger.specs.declared.reading.Reading.TheVariants as reading
 
 module _ {V : Type 0} where
   own_some : (o : Option V) (x : Reading V) → own_reading (ok_or o NoSuchPlace) ≡ Ok x → own_value (told.Read x) ≡ o
@@ -60,7 +60,7 @@ module _ {V : Type 0} where
     own_read : (x : Reading V) → read_told m j r ≡ Ok x → own_value (told.Read x) ≡ value_of (writes_in p.log j) r
     own_read x e = go (has_written (row l j).writes r) refl (passed (read_fault l j r) (reading_from vs (read_source l (row l j) r)) x e).1 ∙ sym last_written
       where
-        go : (b : Bool) → has_written (row l j).writes r ≡ b → reading_from vs (cond b (source.Own (written_place (row l j).writes r)) (version_source l r (version_read l (row l j) r))) ≡ Ok x →
+        go : (b : Bool) → has_written (row l j).writes r ≡ b → reading_from vs (cond b (reading.Own (written_place (row l j).writes r)) (version_source l r (version_read l (row l j) r))) ≡ Ok x →
             own_value (told.Read x) ≡ cond (eqb (first_unseen W r) 0) None (slice_get vs (pred (first_unseen W r)))
         go true w g =
             let n : eqb (first_unseen W r) 0 ≡ false = grind (arith, has_written_entry (row l j).writes r) in

@@ -18,7 +18,7 @@ use Rattle.protocol.proofs.RowSteps.{entries, Core, core, core_after, answers_af
 use Rattle.protocol.proofs.VersionSteps.{Placed, written_place_entry, has_written_entry, installed_as, placed_done, version_stands}
 use Rattle.shelves.specs.declared.fault.ShelfFault.TheVariants.{NoSuchPlace}
 use Rattle.house.specs.declared.fault.Fault.{Fault}
-use Rattle.house.specs.declared.reading.Reading.{Reading}
+use Rattle.ledger.specs.declared.reading.Reading.{Reading}
 use Rattle.house.specs.declared.call.Told.{Told}
 use Rattle.house.specs.Faults.{after_checks}
 use Rattle.house.specs.Model.{HouseModel, with_ledger}
@@ -27,8 +27,8 @@ use Rattle.house.specs.Committing.{office_in}
 use Rattle.house.specs.Runs.{told_as, Event, Progress}
 use Rattle.house.specs.Log.{Occurrence, read, answered, nothing, occurrence_of, occurrence, kind_by, reads_by, writes_by, answers_by, kind_in, reads_in, writes_in, answered_in}
 use Rattle.law.proofs.Entries.{Within, OnceEach, within_found, records_of, once_reads_after, once_writes_after, listed_stays, nth_some, valued}
-use Rattle.ledger.specs.declared.reading.Source.TheVariants as source
-use Rattle.house.specs.declared.reading.Reading.TheVariants as reading
+
+use Rattle.ledger.specs.declared.reading.Reading.TheVariants as reading
 use Rattle.house.specs.declared.call.Call.TheVariants as call
 use Rattle.house.specs.declared.call.Told.TheVariants as told
 
@@ -114,7 +114,7 @@ module _ {V : Type 0} where
         let s = nth_some vs (get_or (versions l r) i no_version).place (place_held r i (omega arith)) in
         (reading.Version (suc i) s.0, ap (λ o. version_reading (suc i) (ok_or o NoSuchPlace)) s.1, λ j. refl)
 
-    pub own_found : (j r : ℕ) → has_written (row l j).writes r ≡ true → (v : V) × (reading_from vs (source.Own (written_place (row l j).writes r)) ≡ Ok (reading.Own v))
+    pub own_found : (j r : ℕ) → has_written (row l j).writes r ≡ true → (v : V) × (reading_from vs (reading.Own (written_place (row l j).writes r)) ≡ Ok (reading.Own v))
     own_found j r w = (s.0, ap (λ n. own_reading (ok_or (slice_get vs n) NoSuchPlace)) (written_place_entry (row l j).writes r) ∙ ap (λ o. own_reading (ok_or o NoSuchPlace)) s.1)
       where
         place : ℕ
@@ -126,7 +126,7 @@ module _ {V : Type 0} where
     pub read_found : (j r : ℕ) → (x : Reading V) × (reading_from vs (read_source l (row l j) r) ≡ Ok x)
     read_found j r = go (has_written (row l j).writes r) refl
       where
-        go : (b : Bool) → has_written (row l j).writes r ≡ b → (x : Reading V) × (reading_from vs (cond b (source.Own (written_place (row l j).writes r)) (version_source l r (version_read l (row l j) r))) ≡ Ok x)
+        go : (b : Bool) → has_written (row l j).writes r ≡ b → (x : Reading V) × (reading_from vs (cond b (reading.Own (written_place (row l j).writes r)) (version_source l r (version_read l (row l j) r))) ≡ Ok x)
         go true w = let o = own_found j r w in (reading.Own o.0, o.1)
         go false w = let o = version_found r (version_read l (row l j) r) (read_low j r) in (o.0, o.1)
 

@@ -8,7 +8,7 @@ use Rattle.protocol.specs.Calls.{call_read, line_after}
 use Rattle.protocol.proofs.Lookups.{unseen_push}
 use Rattle.protocol.proofs.RowSteps.{entries, Core, core, core_after}
 use Rattle.house.specs.declared.fault.Fault.{Fault}
-use Rattle.house.specs.declared.reading.Reading.{Reading}
+use Rattle.ledger.specs.declared.reading.Reading.{Reading}
 use Rattle.house.specs.Model.{HouseModel}
 use Rattle.house.specs.Calls.{reading_from, read_told, read_after}
 use Rattle.house.specs.Committing.{office_in}
@@ -16,8 +16,8 @@ use Rattle.house.specs.Runs.{told_as, Event, Progress}
 use Rattle.house.specs.Log.{contains, Occurrence, read, occurrence_of, occurrence, kind_by, reads_by, writes_by, answers_by}
 use Rattle.law.proofs.Entries.{Within, records_of, contains_record, valued}
 use Rattle.law.proofs.Tying.{passed, version_told, Tied, read_low, version_found, own_found, rows, told_stays, advanced, unseen}
-use Rattle.ledger.specs.declared.reading.Source.TheVariants as source
-use Rattle.house.specs.declared.reading.Reading.TheVariants as reading
+
+use Rattle.ledger.specs.declared.reading.Reading.TheVariants as reading
 use Rattle.house.specs.declared.call.Call.TheVariants as call
 use Rattle.house.specs.declared.call.Told.TheVariants as told
 
@@ -148,7 +148,7 @@ module _ {V : Type 0} (p : Progress V) (T : Tied p) where
       o : (read_fault l j r ≡ None) × (reading_from vs (read_source l (row l j) r) ≡ Ok x)
       o = passed (read_fault l j r) (reading_from vs (read_source l (row l j) r)) x e
 
-      go : (b : Bool) → has_written (row l j).writes r ≡ b → reading_from vs (cond b (source.Own (written_place (row l j).writes r)) (version_source l r (version_read l (row l j) r))) ≡ Ok x →
+      go : (b : Bool) → has_written (row l j).writes r ≡ b → reading_from vs (cond b (reading.Own (written_place (row l j).writes r)) (version_source l r (version_read l (row l j) r))) ≡ Ok x →
           Tied (record { house = read_after m j r; log = record { call = call.Read j r; told = Ok (told.Read x) } ∷ p.log; line = line_after l (read_done l j r) j p.line })
       go true w g =
           let v = own_found p T j r w in

@@ -13,7 +13,7 @@ use Rattle.house.specs.declared.call.Call.{Call}
 use Rattle.house.specs.declared.call.Call.TheVariants.{Open, Read, Write, HandIn, Deliver, Collect, Close, Withdraw, Archive}
 use Rattle.house.specs.declared.call.Told.{Told}
 use Rattle.house.specs.declared.call.Told.TheVariants as told
-use Rattle.house.specs.declared.reading.Reading.TheVariants as reading
+use Rattle.ledger.specs.declared.reading.Reading.TheVariants as reading
 use Rattle.ledger.specs.declared.job.Collected.TheVariants.{Answered, Dropped}
 
 abbrev pub after_calls : Progress (List ℕ) → List (Call (List ℕ)) → Progress (List ℕ)

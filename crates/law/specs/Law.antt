@@ -22,7 +22,7 @@ use Rattle.house.specs.declared.call.Call.{Call}
 use Rattle.house.specs.declared.call.Call.TheVariants.{Collect, Archive}
 use Rattle.house.specs.declared.call.Told.{Told}
 use Rattle.house.specs.declared.call.Told.TheVariants as told
-use Rattle.house.specs.declared.reading.Reading.TheVariants as reading
+use Rattle.ledger.specs.declared.reading.Reading.TheVariants as reading
 use Rattle.ledger.specs.declared.job.Collected.TheVariants.{Answered}
 
 module _ {V : Type 0} where

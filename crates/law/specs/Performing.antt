@@ -11,7 +11,7 @@ use Rattle.house.specs.declared.call.Call.{Call}
 use Rattle.house.specs.declared.call.Call.TheVariants.{Open, Read, Write, HandIn, Deliver, Collect, Close, Withdraw, Archive}
 use Rattle.house.specs.declared.call.Told.{Told}
 use Rattle.house.specs.declared.call.Told.TheVariants as told
-use Rattle.house.specs.declared.reading.Reading.TheVariants as reading
+use Rattle.ledger.specs.declared.reading.Reading.TheVariants as reading
 
 module _ {V : Type 0} where
   -- the first where the call is that of the archive, and the second where it is another

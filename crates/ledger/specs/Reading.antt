@@ -7,8 +7,8 @@ use Rattle.ledger.specs.Model.{RowModel, LedgerModel, row, versions, put_row, is
 use Rattle.ledger.specs.declared.fault.LedgerFault.{LedgerFault}
 use Rattle.ledger.specs.declared.fault.LedgerFault.TheVariants as fault
 use Rattle.ledger.specs.declared.job.Version.{Version}
-use Rattle.ledger.specs.declared.reading.Source.{Source}
-use Rattle.ledger.specs.declared.reading.Source.TheVariants.{Blank, Own, Installed}
+use Rattle.ledger.specs.declared.reading.Reading.{Reading}
+use Rattle.ledger.specs.declared.reading.Reading.TheVariants as reading
 
 -- an inspection sees the newest version whose job is answered, an amendment the newest that is installed
 abbrev pub newest_answered : LedgerModel → ℕ → ℕ
@@ -38,13 +38,13 @@ version_read l x r = cond (first_unseen x.reads r == 0) (newest l x r) (pred (fi
 abbrev pub no_version : Version
 no_version = record { job = 0; place = 0 }
 
-abbrev pub version_source : LedgerModel → ℕ → ℕ → Source
-version_source l r zero = Blank
-version_source l r (suc i) = Installed (suc i) (slice_index_or (versions l r) i no_version).place
+abbrev pub version_source : LedgerModel → ℕ → ℕ → Reading ℕ
+version_source l r zero = reading.Blank
+version_source l r (suc i) = reading.Version (suc i) (slice_index_or (versions l r) i no_version).place
 
 -- where the value lies that a read tells: the job's own write comes first
-abbrev pub read_source : LedgerModel → RowModel → ℕ → Source
-read_source l x r = cond (has_written x.writes r) (Own (written_place x.writes r)) (version_source l r (version_read l x r))
+abbrev pub read_source : LedgerModel → RowModel → ℕ → Reading ℕ
+read_source l x r = cond (has_written x.writes r) (reading.Own (written_place x.writes r)) (version_source l r (version_read l x r))
 
 -- the row with one more listed read
 abbrev pub with_read : RowModel → ℕ → ℕ → RowModel

@@ -13,15 +13,15 @@ use crate::limits::MOST_LISTED;
 use crate::lookups::{listed_version, own_place};
 use crate::numbers::{job_number, record_number};
 
-// Where a read finds its value.
+// What a read tells: a value, or, in the ledger, the place on the shelf where the value lies.
 #[derive(Clone, Copy, PartialEq, Eq, Debug)]
-pub enum Source {
-    // no version to tell
+pub enum Reading<V> {
+    // version 0: no job has written the record
     Blank,
-    // the job's own write
-    Own { place: u64 },
-    // an installed version
-    Installed { version: u8, place: u64 },
+    // the value that the job itself has written
+    Own(V),
+    // an installed version and its value
+    Version { number: u8, value: V },
 }
 
 impl Row {
@@ -79,24 +79,27 @@ impl Ledger {
         }
     }
 
-    fn version_source(&self, record: u8, version: u8) -> Source
+    fn version_source(&self, record: u8, version: u8) -> Reading<u64>
         ensures { result ≡ version_source (view self.now) «record» version }
     {
         if version == 0 {
-            return Source::Blank;
+            return Reading::Blank;
         }
         let place = self
             .versions(record)
             .get(version as usize - 1)
             .map_or(0, |installed| installed.place);
-        Source::Installed { version, place }
+        Reading::Version {
+            number: version,
+            value: place,
+        }
     }
 
-    fn source(&self, row: &Row, record: u8) -> Source
+    fn source(&self, row: &Row, record: u8) -> Reading<u64>
         ensures { result ≡ read_source (view self.now) (row_view row.now) «record» }
     {
         if let Some(place) = own_place(row.writes.as_slice(), record) {
-            return Source::Own { place };
+            return Reading::Own(place);
         }
         match listed_version(row.reads.as_slice(), record) {
             Some(version) => self.version_source(record, version),
@@ -105,7 +108,7 @@ impl Ledger {
     }
 
     // Where the value lies that a read tells, or what the read is refused for.
-    pub fn find(&self, job: u64, record: u64) -> Result<Source, LedgerFault>
+    pub fn find(&self, job: u64, record: u64) -> Result<Reading<u64>, LedgerFault>
         ensures { result ≡ told (read_fault (view self.now) job «record») (read_source (view self.now) (row_of (view self.now) job) «record») }
     {
         let job = job_number(job)?;

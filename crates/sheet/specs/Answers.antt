@@ -6,8 +6,8 @@ use Rattle.values.specs.declared.amount.Amount.{Amount}
 use Rattle.ledger.specs.Marks.{mark_number}
 use Rattle.ledger.specs.declared.job.Collected.{Collected}
 use Rattle.ledger.specs.declared.job.Collected.TheVariants.{Answered, Dropped}
-use Rattle.house.specs.declared.reading.Reading.{Reading}
-use Rattle.house.specs.declared.reading.Reading.TheVariants.{Blank, Own, Version}
+use Rattle.ledger.specs.declared.reading.Reading.{Reading}
+use Rattle.ledger.specs.declared.reading.Reading.TheVariants.{Blank, Own, Version}
 use Rattle.sheet.specs.declared.answer.Answer.{Answer}
 use Rattle.sheet.specs.declared.answer.Answer.TheVariants as answer
 
