@@ -1,4 +1,4 @@
-use Rattle.std.proofs.Common.{◌≡◌, ◌+◌, true, false, length, get_or, sym, ap, ◌∙◌}
+use Rattle.std.proofs.Common.{◌≡◌, true, false, length, get_or}
 use Rattle.history.specs.Layout.{coding}
 use Rattle.ledger.specs.Model.{is_answered}
 use Rattle.ledger.specs.View.{row_view}
@@ -23,17 +23,17 @@ loop-job-preserved g c =
     let rows = c.args.self.now.ledger.now.rows in
     let i = c.loop-job.job in
     let x = row_view (get_or rows i no_table_row) in
+    let whole = rest_put m items rows 0 c.args.cursor.now in
     elim c.if-has_leaf.branch [
       | then-has_leaf w ↦ (
           let answered : is_answered x.state ≡ true = cc w.if-has_leaf.ensures in
-          ap (rest_put m items rows (i + 1)) w.cursor-is ∙ turn_with_leaf m items rows i no_table_row c.loop-job.cursor c.loop-job-test.true w.put_leaf.new.cursor answered w.put_leaf.ensures ∙ c.loop-job.invariant
+          turn_with_leaf m items rows i no_table_row c.loop-job.cursor c.loop-job-test.true w.put_leaf.new.cursor _ whole w.cursor-is answered w.put_leaf.ensures c.loop-job.invariant
           )
       | else-has_leaf w ↦ (
           let unanswered : is_answered x.state ≡ false = cc w.if-has_leaf.ensures in
-          ap (rest_put m items rows (i + 1)) w.cursor-is ∙ turn_without m items rows i no_table_row c.loop-job.cursor c.loop-job-test.true unanswered ∙ c.loop-job.invariant
+          turn_without m items rows i no_table_row c.loop-job.cursor c.loop-job-test.true _ whole w.cursor-is unanswered c.loop-job.invariant
           )
     ]
 
 pub returns : goal.returns
-returns g c =
-    sym (rows_end (coding g.S.Value.Value) (g.S.Shelf.items c.args.self.now.shelf.now) c.args.self.now.ledger.now.rows c.loop-job.job c.loop-job.cursor c.loop-job-test.false) ∙ c.loop-job.invariant
+returns g c = rows_end (coding g.S.Value.Value) (g.S.Shelf.items c.args.self.now.shelf.now) c.args.self.now.ledger.now.rows c.loop-job.job _ _ c.loop-job-test.false c.loop-job.invariant
