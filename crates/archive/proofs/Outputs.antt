@@ -66,14 +66,15 @@ module _ {V : Type 0} (C : Coding V) (items : List V) where
     counts : (e : Cursor) → put_bytes (flat_map (leaf_bytes C) (row_leaves items (suc i) (map row_view (drop (i + 1) rows)))) e ≡ rest_put rows (i + 1) e
     counts e = ap (λ n. put_bytes (flat_map (leaf_bytes C) (row_leaves items n (map row_view (drop (i + 1) rows)))) e) (omega arith)
 
-    pub turn_with_leaf : (e : Cursor) → is_answered (row_view (get_or rows i d)).state ≡ true → e ≡ put_bytes (leaf_bytes C (row_leaf items i (row_view (get_or rows i d)))) c → rest_put rows (i + 1) e ≡ rest_put rows i c
-    turn_with_leaf e a p = ap (rest_put rows (i + 1)) p ∙ sym (next ∙ with_leaf i (row_view (get_or rows i d)) (map row_view (drop (i + 1) rows)) c a ∙ counts _)
+    -- one turn of the loop, whose rest of the rows makes t of what is there so far
+    pub turn_with_leaf : (e f t : Cursor) → f ≡ e → is_answered (row_view (get_or rows i d)).state ≡ true → e ≡ put_bytes (leaf_bytes C (row_leaf items i (row_view (get_or rows i d)))) c → rest_put rows i c ≡ t → rest_put rows (i + 1) f ≡ t
+    turn_with_leaf e f t s a p inv = ap (rest_put rows (i + 1)) (s ∙ p) ∙ sym (next ∙ with_leaf i (row_view (get_or rows i d)) (map row_view (drop (i + 1) rows)) c a ∙ counts _) ∙ inv
 
-    pub turn_without : is_answered (row_view (get_or rows i d)).state ≡ false → rest_put rows (i + 1) c ≡ rest_put rows i c
-    turn_without a = sym (next ∙ with_none i (row_view (get_or rows i d)) (map row_view (drop (i + 1) rows)) c a ∙ counts _)
+    pub turn_without : (f t : Cursor) → f ≡ c → is_answered (row_view (get_or rows i d)).state ≡ false → rest_put rows i c ≡ t → rest_put rows (i + 1) f ≡ t
+    turn_without f t s a inv = ap (rest_put rows (i + 1)) s ∙ sym (next ∙ with_none i (row_view (get_or rows i d)) (map row_view (drop (i + 1) rows)) c a ∙ counts _) ∙ inv
 
-  pub rows_end : (rows : List Row) (i : ℕ) (c : Cursor) → length rows ≤ i → rest_put rows i c ≡ c
-  rows_end rows i c h = at_drop_all (λ ys. put_bytes (flat_map (leaf_bytes C) (row_leaves items i (map row_view ys))) c) rows i h
+  pub rows_end : (rows : List Row) (i : ℕ) (c t : Cursor) → length rows ≤ i → rest_put rows i c ≡ t → c ≡ t
+  rows_end rows i c t h inv = sym (at_drop_all (λ ys. put_bytes (flat_map (leaf_bytes C) (row_leaves items i (map row_view ys))) c) rows i h) ∙ inv
 
   -- the head and then the leaves are the archive
   pub archive_put : (n : ℕ) (xs : List RowModel) (c : Cursor) → n ≡ length (row_leaves items 0 xs) →

@@ -1,11 +1,11 @@
 -- The archive of a house by its answered jobs: its leaves, its bytes, what the call tells and what the buffer then holds. Runs and the law go by it; the code goes by `RowArchiving`. Assumes nothing.
-use Rattle.std.specs.Prelude.{ℕ, Bool, cond, List, ◌++◌, map, length, drop, Ok, Err, Result, nat_le, nat_lt}
+use Rattle.std.specs.Prelude.{ℕ, Bool, cond, List, ◌++◌, map, length, drop, Ok, Err, Result, nat_lt}
 use Rattle.std.specs.List.{list_any}
 use Rattle.shelves.specs.declared.fault.ShelfFault.TheVariants.{NoSuchPlace}
 use Rattle.ledger.specs.Model.{row}
 use Rattle.history.specs.Histories.{Leaf}
 use Rattle.history.specs.Layout.{Coding, archive}
-use Rattle.archive.specs.Leaves.{leaf_writes}
+use Rattle.archive.specs.Leaves.{leaf_writes, lacks_write}
 use Rattle.house.specs.Faults.{kept}
 use Rattle.house.specs.Model.{HouseModel}
 use Rattle.house.specs.declared.fault.Fault.{Fault}
@@ -23,7 +23,7 @@ module _ {V : Type 0} where
 
   -- the shelf lacks a value of an answered job, which no run meets
   abbrev pub lacks_value : HouseModel V → Bool
-  lacks_value m = list_any (λ j. list_any (λ w. nat_le (length m.items) w.place) (row m.ledger j).writes) m.ledger.answered
+  lacks_value m = list_any (λ j. lacks_write (length m.items) (row m.ledger j).writes) m.ledger.answered
 
 module _ {V : Type 0} (C : Coding V) where
   abbrev pub house_archive : HouseModel V → List ℕ

@@ -1,6 +1,7 @@
 -- Lists of entries (a record with a version or a place), and the values that the shelf has at the places.
 -- each place is below n
 use Rattle.std.proofs.Common.{◌≡◌, ℕ, zero, suc, pred, ◌<◌, ◌≤◌, Bool, true, false, cond, not, ◌&&◌, eqb, leb, List, [], ◌∷◌, ◌++◌, map, length, Some, None, Option, sym, refl, ap, ◌∙◌, arith}
+use Rattle.std.proofs.Math.Dec.{eqb-suc-zero}
 use Rattle.std.specs.List.{cons_option, slice_get, AllByRecursion}
 use Rattle.std.proofs.lemmas.Bool.Decides.{nat_tests}
 use Rattle.std.proofs.ByRecursion.{All-weaker}
@@ -180,9 +181,6 @@ listed_stays l (call_deliver j o) k s u = refl
 
 -- the values at the places
 
-eqb_suc : (n : ℕ) → eqb (suc n) 0 ≡ false
-eqb_suc n = grind arith
-
 module _ {V : Type 0} where
   pub nth_old : (vs : List V) (v : V) (p : ℕ) → p < length vs → slice_get (vs ++ v ∷ []) p ≡ slice_get vs p
   nth_old [] v p l = absurd (omega arith)
@@ -232,7 +230,7 @@ module _ {V : Type 0} where
 
       go : (b : Bool) → eqb x.«record» r ≡ b → value_of (valued vs xs) r ≡ cond (eqb (first_unseen xs r) 0) None (slice_get vs (pred (first_unseen xs r))) →
           value_of (cons_option (paired x.«record» (slice_get vs x.version)) (valued vs xs)) r ≡ cond (eqb (cond b (suc x.version) (first_unseen xs r)) 0) None (slice_get vs (pred (cond b (suc x.version) (first_unseen xs r))))
-      go true e i = rw (s.1, e) (sym (ap (λ t. cond {A = Option V} t None (Some s.0)) (eqb_suc x.version)))
+      go true e i = rw (s.1, e) (sym (ap (λ t. cond {A = Option V} t None (Some s.0)) (eqb-suc-zero x.version)))
       go false e i = rw (s.1, e) i
 
   pub any_valued : (vs : List V) (xs : List Read) (r : ℕ) → Within (length vs) xs → list_any (λ (x : ℕ × V). eqb x.0 r) (valued vs xs) ≡ not (eqb (first_unseen xs r) 0)
@@ -244,7 +242,7 @@ module _ {V : Type 0} where
 
       go : (b : Bool) → eqb x.«record» r ≡ b → list_any (λ (x : ℕ × V). eqb x.0 r) (valued vs xs) ≡ not (eqb (first_unseen xs r) 0) →
           list_any (λ (x : ℕ × V). eqb x.0 r) (cons_option (paired x.«record» (slice_get vs x.version)) (valued vs xs)) ≡ not (eqb (cond b (suc x.version) (first_unseen xs r)) 0)
-      go true e i = rw (s.1, e) (sym (ap not (eqb_suc x.version)))
+      go true e i = rw (s.1, e) (sym (ap not (eqb-suc-zero x.version)))
       go false e i = rw (s.1, e) i
 
   -- the writes of a leaf

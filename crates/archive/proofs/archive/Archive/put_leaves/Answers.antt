@@ -1,4 +1,4 @@
-use Rattle.std.proofs.Common.{◌≡◌, ◌+◌, true, false, length, get_or, sym, ap, ◌∙◌, subst}
+use Rattle.std.proofs.Common.{◌≡◌, true, false, length, get_or, sym, ap, ◌∙◌, subst}
 use Rattle.encoding.specs.Outputs.{put_bytes}
 use Rattle.history.specs.Layout.{coding, leaf_bytes}
 use Rattle.ledger.specs.Model.{is_answered}
@@ -29,16 +29,13 @@ loop-job-preserved g c =
     let d = c.index-rows-job.result in
     let q : get_or rows i d ≡ d = sym c.index-rows-job.is in
     let told : is_answered (row_view (get_or rows i d)).state ≡ c.is_answered.result = ap (λ (x : Row). is_answered (row_view x).state) q ∙ sym c.is_answered.ensures in
+    let whole = rest_put m items rows 0 c.args.cursor.now in
     elim c.if-is_answered.branch [
       | then-is_answered w ↦
-          ap (rest_put m items rows (i + 1)) w.cursor-is
-          ∙ turn_with_leaf m items rows i d c.loop-job.cursor c.loop-job-test.true w.put_leaf.new.cursor (told ∙ w.if-is_answered.true)
-          (w.put_leaf.ensures ∙ ap (λ (x : Row). put_bytes (leaf_bytes m (row_leaf items i (row_view x))) c.loop-job.cursor) (sym q))
-          ∙ c.loop-job.invariant
+          turn_with_leaf m items rows i d c.loop-job.cursor c.loop-job-test.true w.put_leaf.new.cursor _ whole w.cursor-is (told ∙ w.if-is_answered.true)
+          (w.put_leaf.ensures ∙ ap (λ (x : Row). put_bytes (leaf_bytes m (row_leaf items i (row_view x))) c.loop-job.cursor) (sym q)) c.loop-job.invariant
       | else-is_answered w ↦
-          ap (rest_put m items rows (i + 1)) w.cursor-is
-          ∙ turn_without m items rows i d c.loop-job.cursor c.loop-job-test.true (told ∙ w.if-is_answered.false)
-          ∙ c.loop-job.invariant
+          turn_without m items rows i d c.loop-job.cursor c.loop-job-test.true _ whole w.cursor-is (told ∙ w.if-is_answered.false) c.loop-job.invariant
     ]
 
 pub returns : goal.returns
