@@ -7,7 +7,6 @@ use Rattle.ledger.specs.Opening.{open_fault, open_done, withdraw_fault, withdraw
 use Rattle.ledger.specs.Reading.{read_fault, read_source, read_done}
 use Rattle.ledger.specs.Writing.{write_fault, write_done}
 use Rattle.ledger.specs.declared.job.JobKind.{JobKind}
-
 use Rattle.house.specs.Faults.{after_checks}
 use Rattle.house.specs.Model.{HouseModel, with_ledger}
 use Rattle.house.specs.declared.fault.Fault.{Fault}

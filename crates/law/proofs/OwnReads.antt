@@ -22,7 +22,6 @@ use Rattle.law.specs.Performing.{own_value, OwnTold}
 use Rattle.law.proofs.Entries.{value_of_valued}
 use Rattle.law.proofs.Tying.{passed, Tied}
 use Rattle.law.proofs.TyingCalls.{tied}
-
 use Rattle.house.specs.declared.call.Call.TheVariants as call
 use Rattle.house.specs.declared.call.Told.TheVariants as told
 use Rattle.ledger.specs.declared.reading.Reading.TheVariants as reading

@@ -27,7 +27,6 @@ use Rattle.house.specs.Committing.{office_in}
 use Rattle.house.specs.Runs.{told_as, Event, Progress}
 use Rattle.house.specs.Log.{Occurrence, read, answered, nothing, occurrence_of, occurrence, kind_by, reads_by, writes_by, answers_by, kind_in, reads_in, writes_in, answered_in}
 use Rattle.law.proofs.Entries.{Within, OnceEach, within_found, records_of, once_reads_after, once_writes_after, listed_stays, nth_some, valued}
-
 use Rattle.ledger.specs.declared.reading.Reading.TheVariants as reading
 use Rattle.house.specs.declared.call.Call.TheVariants as call
 use Rattle.house.specs.declared.call.Told.TheVariants as told

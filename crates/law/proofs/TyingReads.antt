@@ -16,7 +16,6 @@ use Rattle.house.specs.Runs.{told_as, Event, Progress}
 use Rattle.house.specs.Log.{contains, Occurrence, read, occurrence_of, occurrence, kind_by, reads_by, writes_by, answers_by}
 use Rattle.law.proofs.Entries.{Within, records_of, contains_record, valued}
 use Rattle.law.proofs.Tying.{passed, version_told, Tied, read_low, version_found, own_found, rows, told_stays, advanced, unseen}
-
 use Rattle.ledger.specs.declared.reading.Reading.TheVariants as reading
 use Rattle.house.specs.declared.call.Call.TheVariants as call
 use Rattle.house.specs.declared.call.Told.TheVariants as told

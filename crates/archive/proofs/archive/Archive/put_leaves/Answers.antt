@@ -39,5 +39,4 @@ loop-job-preserved g c =
     ]
 
 pub returns : goal.returns
-returns g c =
-    sym (rows_end (coding g.S.Value.Value) (g.S.Shelf.items c.args.self.now.shelf.now) c.args.self.now.ledger.now.rows c.loop-job.job c.loop-job.cursor c.loop-job-test.false) ∙ c.loop-job.invariant
+returns g c = rows_end (coding g.S.Value.Value) (g.S.Shelf.items c.args.self.now.shelf.now) c.args.self.now.ledger.now.rows c.loop-job.job _ _ c.loop-job-test.false c.loop-job.invariant
