@@ -19,7 +19,7 @@ use values::value::Value;
 pub const REQUEST: usize = 32;
 
 // A call, or a question.
-#[derive(Clone, Copy)]
+#[derive(Clone, Copy, PartialEq, Eq, Debug)]
 pub enum Request<V> {
     Call(Call<V>),
     JobState { job: u64 },

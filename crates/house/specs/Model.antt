@@ -3,6 +3,7 @@ use Rattle.std.specs.Prelude.{ℕ, List}
 use Rattle.ledger.specs.Model.{LedgerModel, new_ledger}
 use Rattle.ledger.specs.Limits.{offices_built}
 use Rattle.ledger.specs.View.{view}
+use Rattle.shelves.specs.declared.shelf.Shelf.{Ghosts as Shelf}
 use Rattle.house.specs.declared.house.House.{House}
 
 -- `items` and `room` are the shelf's list of values and its capacity
@@ -20,5 +21,5 @@ abbrev pub with_ledger : {V : Type 0} → HouseModel V → LedgerModel → House
 with_ledger m l = record { offices = m.offices; ledger = l; items = m.items; room = m.room }
 
 -- what a house means, by what its shelf means
-abbrev pub model : {S V : Type 0} → (S → List V) → (S → ℕ) → House S → HouseModel V
-model items room h = record { offices = h.offices.count; ledger = view h.ledger; items = items h.shelf; room = room h.shelf }
+abbrev pub model : {S V C : Type 0} → Shelf S V C → House S → HouseModel V
+model shelf h = record { offices = h.offices.count; ledger = view h.ledger; items = shelf.items h.shelf; room = shelf.room h.shelf }

@@ -15,8 +15,8 @@ impl<S: Shelf> House<S> {
     // Writes the archive to the front of a buffer and tells its size; the bytes behind it stay.
     // A buffer that is too short is refused (14, with the size that it needs), and then not a byte is written.
     pub fn archive(&self, buffer: &mut [u8]) -> Result<u64, Fault>
-        ensures told { result ≡ rows_told (coding S.Value.Value) (model S.items S.room self.now) (length buffer.old) }
-        ensures buffer { buffer.new ≡ rows_buffer (coding S.Value.Value) (model S.items S.room self.now) buffer.old }
+        ensures told { result ≡ rows_told (coding S.Value.Value) (model S.Shelf self.now) (length buffer.old) }
+        ensures buffer { buffer.new ≡ rows_buffer (coding S.Value.Value) (model S.Shelf self.now) buffer.old }
     {
         if lacks_value(&self.ledger, &self.shelf) {
             return Err(Fault::Shelf(ShelfFault::NoSuchPlace));

@@ -3,7 +3,7 @@ use crate::reading::Reading;
 use ledger::job::{Collected, JobKind};
 
 // One call of the house, with all that it is given.
-#[derive(Clone, Copy)]
+#[derive(Clone, Copy, PartialEq, Eq, Debug)]
 pub enum Call<V> {
     Open { job: u64, kind: JobKind },
     Read { job: u64, record: u64 },
@@ -18,7 +18,7 @@ pub enum Call<V> {
 }
 
 // What a call tells if it is not refused.
-#[derive(Clone, Copy)]
+#[derive(Clone, Copy, PartialEq, Eq, Debug)]
 pub enum Told<V> {
     // there is nothing to tell
     Done,

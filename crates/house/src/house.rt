@@ -23,7 +23,7 @@ pub struct House<S> {
 impl<S: Shelf> House<S> {
     // A house with no job, version or message. 0 offices count as 1, and more than 8 as 8; the shelf may hold values already.
     pub fn new(offices: u64, shelf: S) -> House<S>
-        ensures { model S.items S.room result ≡ built offices (S.items shelf) (S.room shelf) }
+        ensures { model S.Shelf result ≡ built offices (S.items shelf) (S.room shelf) }
     {
         House {
             offices: Offices::new(offices),
@@ -34,8 +34,8 @@ impl<S: Shelf> House<S> {
 
     // Starts an amendment or an inspection under a job number of the caller's choice.
     pub fn open(&mut self, job: u64, kind: JobKind) -> Result<(), Fault>
-        ensures told { result ≡ open_told (model S.items S.room self.old) job }
-        ensures after { model S.items S.room self.new ≡ kept result (model S.items S.room self.old) (open_after (model S.items S.room self.old) job kind) }
+        ensures told { result ≡ open_told (model S.Shelf self.old) job }
+        ensures after { model S.Shelf self.new ≡ kept result (model S.Shelf self.old) (open_after (model S.Shelf self.old) job kind) }
         ensures shelf { self.new.shelf ≡ self.old.shelf }
     {
         self.ledger.open(job, kind)?;
@@ -44,8 +44,8 @@ impl<S: Shelf> House<S> {
 
     // Ends an open amendment without a trace.
     pub fn withdraw(&mut self, job: u64) -> Result<(), Fault>
-        ensures told { result ≡ withdraw_told (model S.items S.room self.old) job }
-        ensures after { model S.items S.room self.new ≡ kept result (model S.items S.room self.old) (withdraw_after (model S.items S.room self.old) job) }
+        ensures told { result ≡ withdraw_told (model S.Shelf self.old) job }
+        ensures after { model S.Shelf self.new ≡ kept result (model S.Shelf self.old) (withdraw_after (model S.Shelf self.old) job) }
         ensures shelf { self.new.shelf ≡ self.old.shelf }
     {
         self.ledger.withdraw(job)?;
@@ -67,8 +67,8 @@ impl<S: Shelf> House<S> {
 
     // Tells a job what it sees of a record, and lists the first reading.
     pub fn read(&mut self, job: u64, record: u64) -> Result<Reading<S::Value>, Fault>
-        ensures told { result ≡ read_told (model S.items S.room self.old) job «record» }
-        ensures after { model S.items S.room self.new ≡ kept result (model S.items S.room self.old) (read_after (model S.items S.room self.old) job «record») }
+        ensures told { result ≡ read_told (model S.Shelf self.old) job «record» }
+        ensures after { model S.Shelf self.new ≡ kept result (model S.Shelf self.old) (read_after (model S.Shelf self.old) job «record») }
         ensures shelf { self.new.shelf ≡ self.old.shelf }
     {
         let source = self.ledger.find(job, record)?;
@@ -79,8 +79,8 @@ impl<S: Shelf> House<S> {
 
     // Puts a value on the shelf and lists it as the job's write of a record.
     pub fn write(&mut self, job: u64, record: u64, value: S::Value) -> Result<(), Fault>
-        ensures told { result ≡ write_told (model S.items S.room self.old) job «record» }
-        ensures after { model S.items S.room self.new ≡ kept result (model S.items S.room self.old) (write_after (model S.items S.room self.old) job «record» value) }
+        ensures told { result ≡ write_told (model S.Shelf self.old) job «record» }
+        ensures after { model S.Shelf self.new ≡ kept result (model S.Shelf self.old) (write_after (model S.Shelf self.old) job «record» value) }
         ensures shelf { is_err result ≡ true → self.new.shelf ≡ self.old.shelf }
     {
         self.ledger.check_write(job, record)?;
@@ -91,8 +91,8 @@ impl<S: Shelf> House<S> {
 
     // Hands in an open amendment: the offices of its records are asked to prepare.
     pub fn hand_in(&mut self, job: u64) -> Result<(), Fault>
-        ensures told { result ≡ hand_in_told (model S.items S.room self.old) job }
-        ensures after { model S.items S.room self.new ≡ kept result (model S.items S.room self.old) (hand_in_after (model S.items S.room self.old) job) }
+        ensures told { result ≡ hand_in_told (model S.Shelf self.old) job }
+        ensures after { model S.Shelf self.new ≡ kept result (model S.Shelf self.old) (hand_in_after (model S.Shelf self.old) job) }
         ensures shelf { self.new.shelf ≡ self.old.shelf }
     {
         self.ledger.hand_in(job, self.offices)?;
@@ -101,8 +101,8 @@ impl<S: Shelf> House<S> {
 
     // Delivers the message that waits between a job and an office.
     pub fn deliver(&mut self, job: u64, office: u64) -> Result<(), Fault>
-        ensures told { result ≡ deliver_told (model S.items S.room self.old) job office }
-        ensures after { model S.items S.room self.new ≡ kept result (model S.items S.room self.old) (deliver_after (model S.items S.room self.old) job office) }
+        ensures told { result ≡ deliver_told (model S.Shelf self.old) job office }
+        ensures after { model S.Shelf self.new ≡ kept result (model S.Shelf self.old) (deliver_after (model S.Shelf self.old) job office) }
         ensures shelf { self.new.shelf ≡ self.old.shelf }
     {
         self.ledger.deliver(job, office, self.offices)?;
@@ -111,8 +111,8 @@ impl<S: Shelf> House<S> {
 
     // Tells the client what became of an amendment: an accepted one is answered unless it is held, a dropped one ends.
     pub fn collect(&mut self, job: u64) -> Result<Collected, Fault>
-        ensures told { result ≡ collect_told (model S.items S.room self.old) job }
-        ensures after { model S.items S.room self.new ≡ kept result (model S.items S.room self.old) (collect_after (model S.items S.room self.old) job) }
+        ensures told { result ≡ collect_told (model S.Shelf self.old) job }
+        ensures after { model S.Shelf self.new ≡ kept result (model S.Shelf self.old) (collect_after (model S.Shelf self.old) job) }
         ensures shelf { self.new.shelf ≡ self.old.shelf }
     {
         let collected = self.ledger.collect(job)?;
@@ -121,8 +121,8 @@ impl<S: Shelf> House<S> {
 
     // Answers an inspection; nothing holds it.
     pub fn close(&mut self, job: u64) -> Result<(), Fault>
-        ensures told { result ≡ close_told (model S.items S.room self.old) job }
-        ensures after { model S.items S.room self.new ≡ kept result (model S.items S.room self.old) (close_after (model S.items S.room self.old) job) }
+        ensures told { result ≡ close_told (model S.Shelf self.old) job }
+        ensures after { model S.Shelf self.new ≡ kept result (model S.Shelf self.old) (close_after (model S.Shelf self.old) job) }
         ensures shelf { self.new.shelf ≡ self.old.shelf }
     {
         self.ledger.close(job)?;

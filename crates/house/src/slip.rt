@@ -50,8 +50,8 @@ impl Slip {
 impl<S: Shelf> House<S> {
     // Opens an inspection and gives its slip.
     pub fn open_slip(&mut self, job: u64) -> Result<Slip, Fault>
-        ensures told { result ≡ slip_told (open_told (model S.items S.room self.old) job) job }
-        ensures after { model S.items S.room self.new ≡ kept (open_told (model S.items S.room self.old) job) (model S.items S.room self.old) (open_after (model S.items S.room self.old) job Inspection) }
+        ensures told { result ≡ slip_told (open_told (model S.Shelf self.old) job) job }
+        ensures after { model S.Shelf self.new ≡ kept (open_told (model S.Shelf self.old) job) (model S.Shelf self.old) (open_after (model S.Shelf self.old) job Inspection) }
         ensures shelf { self.new.shelf ≡ self.old.shelf }
     {
         self.open(job, JobKind::Inspection)?;
@@ -60,8 +60,8 @@ impl<S: Shelf> House<S> {
 
     // Reads by a slip: the same as a read by its job number.
     pub fn read_slip(&mut self, slip: &Slip, record: u64) -> Result<Reading<S::Value>, Fault>
-        ensures told { result ≡ read_told (model S.items S.room self.old) slip.now.job «record» }
-        ensures after { model S.items S.room self.new ≡ kept result (model S.items S.room self.old) (read_after (model S.items S.room self.old) slip.now.job «record») }
+        ensures told { result ≡ read_told (model S.Shelf self.old) slip.now.job «record» }
+        ensures after { model S.Shelf self.new ≡ kept result (model S.Shelf self.old) (read_after (model S.Shelf self.old) slip.now.job «record») }
         ensures shelf { self.new.shelf ≡ self.old.shelf }
     {
         self.read(slip.job, record)
@@ -69,8 +69,8 @@ impl<S: Shelf> House<S> {
 
     // Closes by a slip, which is spent whatever the answer: after a close by number it is refused with 7.
     pub fn close_slip(&mut self, slip: Slip) -> Result<(), Fault>
-        ensures told { result ≡ close_told (model S.items S.room self.old) slip.job }
-        ensures after { model S.items S.room self.new ≡ kept result (model S.items S.room self.old) (close_after (model S.items S.room self.old) slip.job) }
+        ensures told { result ≡ close_told (model S.Shelf self.old) slip.job }
+        ensures after { model S.Shelf self.new ≡ kept result (model S.Shelf self.old) (close_after (model S.Shelf self.old) slip.job) }
         ensures shelf { self.new.shelf ≡ self.old.shelf }
     {
         let job = slip.spend();

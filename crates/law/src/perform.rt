@@ -17,9 +17,9 @@ fn dispatch<S: Shelf>(
     call: Call<S::Value>,
     buffer: &mut [u8],
 ) -> Result<Told<S::Value>, Fault>
-    ensures told { result ≡ performed_told (coding S.Value.Value) (model S.items S.room house.old) call (length buffer.old) }
-    ensures after { model S.items S.room house.new ≡ call_after (coding S.Value.Value) (model S.items S.room house.old) call }
-    ensures buffer { buffer.new ≡ performed_buffer (coding S.Value.Value) (model S.items S.room house.old) call buffer.old }
+    ensures told { result ≡ performed_told (coding S.Value.Value) (model S.Shelf house.old) call (length buffer.old) }
+    ensures after { model S.Shelf house.new ≡ call_after (coding S.Value.Value) (model S.Shelf house.old) call }
+    ensures buffer { buffer.new ≡ performed_buffer (coding S.Value.Value) (model S.Shelf house.old) call buffer.old }
 {
     match call {
         Call::Open { job, kind } => {
@@ -68,12 +68,12 @@ pub fn perform<S: Shelf>(
     call: Call<S::Value>,
     buffer: &mut [u8],
 ) -> Result<Told<S::Value>, Fault>
-    ensures told { result ≡ performed_told (coding S.Value.Value) (model S.items S.room house.old) call (length buffer.old) }
-    ensures after { model S.items S.room house.new ≡ call_after (coding S.Value.Value) (model S.items S.room house.old) call }
-    ensures buffer { buffer.new ≡ performed_buffer (coding S.Value.Value) (model S.items S.room house.old) call buffer.old }
+    ensures told { result ≡ performed_told (coding S.Value.Value) (model S.Shelf house.old) call (length buffer.old) }
+    ensures after { model S.Shelf house.new ≡ call_after (coding S.Value.Value) (model S.Shelf house.old) call }
+    ensures buffer { buffer.new ≡ performed_buffer (coding S.Value.Value) (model S.Shelf house.old) call buffer.old }
     ensures law { TheLaw (coding S.Value.Value) }
     ensures own { OwnTold (coding S.Value.Value) }
-    ensures chain { Continues (coding S.Value.Value) (model S.items S.room house.old) call buffer.old result buffer.new (model S.items S.room house.new) }
+    ensures chain { Continues (coding S.Value.Value) (model S.Shelf house.old) call buffer.old result buffer.new (model S.Shelf house.new) }
 {
     dispatch(house, call, buffer)
 }

@@ -17,12 +17,12 @@ pub enum JobKind {
 // Why an office refused a job: the reason of an abort.
 #[derive(Clone, Copy, PartialEq, Eq, Debug)]
 pub enum Mark {
-    // 1: another job holds a record in a way that excludes this one
-    Conflict,
-    // 2: a record has a newer version than the one that the job read
-    Stale,
-    // 3: a record has all the versions that it can have
-    Full,
+    // another job holds a record in a way that excludes this one
+    Conflict = 1,
+    // a record has a newer version than the one that the job read
+    Stale = 2,
+    // a record has all the versions that it can have
+    Full = 3,
 }
 
 impl Mark {
@@ -30,11 +30,7 @@ impl Mark {
     pub fn number(&self) -> u8
         ensures { result ≡ mark_number self.now }
     {
-        match self {
-            Mark::Conflict => 1,
-            Mark::Stale => 2,
-            Mark::Full => 3,
-        }
+        *self as u8
     }
 }
 

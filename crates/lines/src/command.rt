@@ -68,11 +68,11 @@ pub enum Command {
 #[derive(Clone, Copy, PartialEq, Eq, Debug)]
 pub enum LineFault {
     // The line has more than 80 bytes.
-    TooLong,
+    TooLong = 18,
     // The first character chooses no command, or there is none.
-    UnknownLetter,
+    UnknownLetter = 19,
     // The fields are not those of the command.
-    WrongFields,
+    WrongFields = 20,
 }
 
 impl LineFault {
@@ -80,10 +80,6 @@ impl LineFault {
     pub fn number(&self) -> u8
         ensures { result ≡ line_fault_number self.now }
     {
-        match self {
-            LineFault::TooLong => 18,
-            LineFault::UnknownLetter => 19,
-            LineFault::WrongFields => 20,
-        }
+        *self as u8
     }
 }

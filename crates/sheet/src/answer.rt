@@ -7,7 +7,7 @@ use ledger::job::Collected;
 use std::fmt;
 use values::amount::Amount;
 
-#[derive(Clone, Copy)]
+#[derive(Clone, Copy, PartialEq, Eq, Debug)]
 pub enum Answer {
     // the command is done, and there is no more to tell
     Done,

@@ -19,8 +19,8 @@ pub(crate) fn carry_out<S: Shelf<Value = Amount>>(
     house: &mut House<S>,
     command: Command,
 ) -> Result<Answer, Cause>
-    ensures told { result ≡ command_told (model S.items S.room house.old) command }
-    ensures after { model S.items S.room house.new ≡ command_after (model S.items S.room house.old) command }
+    ensures told { result ≡ command_told (model S.Shelf house.old) command }
+    ensures after { model S.Shelf house.new ≡ command_after (model S.Shelf house.old) command }
 {
     let done = |()| Answer::Done;
     let answer = match command {
@@ -50,8 +50,8 @@ pub(crate) fn carry_out_line<S: Shelf<Value = Amount>>(
     house: &mut House<S>,
     line: &[u8],
 ) -> Result<Answer, Cause>
-    ensures told { result ≡ line_told (model S.items S.room house.old) line.now }
-    ensures after { model S.items S.room house.new ≡ line_after (model S.items S.room house.old) line.now }
+    ensures told { result ≡ line_told (model S.Shelf house.old) line.now }
+    ensures after { model S.Shelf house.new ≡ line_after (model S.Shelf house.old) line.now }
 {
     carry_out(house, parse(line)?)
 }

@@ -55,7 +55,7 @@ fn write_lines<S: Shelf<Value = Amount>>(
     house: &mut House<S>,
     input: &[u8],
 ) -> fmt::Result
-    ensures { OnOk result (string_bytes text.new ≡ string_bytes text.old ++ lines_text 1 (model S.items S.room house.old) (lines_of (take most_input input.now))) }
+    ensures { OnOk result (string_bytes text.new ≡ string_bytes text.old ++ lines_text 1 (model S.Shelf house.old) (lines_of (take most_input input.now))) }
 {
     for (i, line) in Lines::new(first_bytes(input)).enumerate() {
         let answer = carry_out_line(house, line);

@@ -7,7 +7,7 @@ use house::fault::{Fault, Layer};
 use lines::command::LineFault;
 use std::fmt;
 
-#[derive(Clone, Copy)]
+#[derive(Clone, Copy, PartialEq, Eq, Debug)]
 pub enum Cause {
     Line(LineFault),
     House(Fault),
@@ -50,7 +50,7 @@ impl From<Fault> for Cause {
 }
 
 // The refusal of one line of an input.
-#[derive(Clone, Copy)]
+#[derive(Clone, Copy, PartialEq, Eq, Debug)]
 pub struct Refusal {
     pub line: usize,
     pub cause: Cause,

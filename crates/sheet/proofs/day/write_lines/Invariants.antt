@@ -7,5 +7,5 @@ use Rattle.sheet.proofs.day.write_lines.Given as goal
 -- what is written and what is left to write are the whole
 abbrev pub invariant-loop-i : goal.invariant-loop-i
 invariant-loop-i g l =
-    string_bytes l.text ++ lines_text (l.i-iterator.count + 1) (model g.S.Shelf.items g.S.Shelf.room l.house) (lines_of l.i-iterator.iter.rest.now)
-    ≡ string_bytes l.initial.text ++ lines_text 1 (model g.S.Shelf.items g.S.Shelf.room l.initial.house) (lines_of (take most_input l.input))
+    string_bytes l.text ++ lines_text (l.i-iterator.count + 1) (model g.S.Shelf l.house) (lines_of l.i-iterator.iter.rest.now)
+    ≡ string_bytes l.initial.text ++ lines_text 1 (model g.S.Shelf l.initial.house) (lines_of (take most_input l.input))
