@@ -3,7 +3,7 @@ use Rattle.std.specs.Prelude.{◌≡◌, ℕ, true, List, [], ◌∷◌, ℤ, po
 use Rattle.std.specs.Option.{ok_or}
 use Rattle.std.specs.List.{AllByRecursion}
 use Rattle.std.specs.Result.{result_map_both}
-use Rattle.values.specs.Amounts.{amount_from_numbers, amount_bytes}
+use Rattle.values.specs.Amounts.{amount_from_numbers}
 use Rattle.values.specs.Standings.{reason_of, standing_bytes}
 use Rattle.values.specs.Faults.{value_fault_number}
 use Rattle.values.specs.declared.amount.Amount.{Amount}
@@ -20,7 +20,9 @@ use Rattle.ledger.specs.declared.job.Write.{Write}
 use Rattle.house.specs.Archiving.{house_archive}
 use Rattle.house.specs.Committing.{office_in}
 use Rattle.house.specs.Model.{built}
-use Rattle.law.specs.Kinds.{amount_kind, amounts}
+use Rattle.history.specs.Layout.{coding}
+use Rattle.values.specs.declared.amount.AmountCell.{AmountCell}
+use Rattle.values.specs.declared.value.Value.{Ghosts as Kind}
 
 -- the bytes of a value that is made, or the number of the refusal
 abbrev pub made_bytes : {V : Type 0} → (V → List ℕ) → Result V ValueFault → Result (List ℕ) ℕ
@@ -52,13 +54,14 @@ pub data Case : Type 0 where
   -- an unused house of amounts, whatever its offices and its shelf, has this archive
   unused : (archive : List ℕ) → Case
 
-abbrev pub Holds : Case → Type 0
-Holds (owned offices r office) = office_in (built {V = Amount} offices [] 0) r ≡ office
-Holds (amount currency units made) = made_bytes amount_bytes (amount_from_numbers currency units) ≡ made
-Holds (stopped reason made) = made_bytes (λ r. standing_bytes (Stopped r)) (ok_or (reason_of reason) OutOfRange) ≡ made
-Holds (room bytes count) = frames_in amount_kind bytes ≡ count
-Holds (before first later) = precedes first later ≡ true
-Holds (unused archive) = (offices : ℕ) (items : List Amount) (capacity : ℕ) → house_archive amounts (built offices items capacity) ≡ archive
+-- what a case says, where K is what the kind of value of amounts says of itself
+abbrev pub Holds : Kind Amount AmountCell → Case → Type 0
+Holds K (owned offices r office) = office_in (built {V = Amount} offices [] 0) r ≡ office
+Holds K (amount currency units made) = made_bytes K.bytes (amount_from_numbers currency units) ≡ made
+Holds K (stopped reason made) = made_bytes (λ r. standing_bytes (Stopped r)) (ok_or (reason_of reason) OutOfRange) ≡ made
+Holds K (room bytes count) = frames_in K bytes ≡ count
+Holds K (before first later) = precedes first later ≡ true
+Holds K (unused archive) = (offices : ℕ) (items : List Amount) (capacity : ℕ) → house_archive (coding K) (built offices items capacity) ≡ archive
 
 abbrev pub cases : List Case
 cases =
@@ -76,5 +79,5 @@ cases =
     []
 
 -- every case holds
-abbrev pub Figures : Type 0
-Figures = AllByRecursion Holds cases
+abbrev pub Figures : Kind Amount AmountCell → Type 0
+Figures K = AllByRecursion (Holds K) cases

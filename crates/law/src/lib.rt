@@ -7,6 +7,7 @@ ghost use Rattle.law.specs.Examples.{Alike, Unlike, Crossing};
 ghost use Rattle.law.specs.Figures.{Figures};
 ghost use Rattle.law.specs.Performing.{RowsArchived};
 
+use values::amount::Amount;
 use values::value::Value;
 
 pub mod perform;
@@ -50,5 +51,5 @@ pub fn crossing_inspections()
 // Worked cases of the rules, each by computation.
 #[tactic(auto, unfolding(history::specs::Layout::leaves, history::specs::Layout::archive_bytes))]
 pub fn figures_stand()
-    ensures { Figures }
+    ensures { Figures ⟦<Amount as Value>⟧ }
 {}
