@@ -9,6 +9,13 @@ use ledger::job::{Row, Write};
 use ledger::ledger::Ledger;
 use shelves::shelf::Shelf;
 
+// Whether the archive has a leaf of the job with this row: its commit is known to its client.
+pub(crate) fn has_leaf(row: &Row) -> bool
+    ensures { result ≡ is_answered (row_view row.now).state }
+{
+    row.is_answered()
+}
+
 // Whether a shelf of so many values lacks one of these writes.
 fn lacks_write(count: u64, writes: &[Write]) -> bool
     ensures { result ≡ lacks_write count writes.now }
@@ -20,10 +27,10 @@ fn lacks_write(count: u64, writes: &[Write]) -> bool
 fn row_lacks(count: u64, row: &Row) -> bool
     ensures { result ≡ (is_answered (row_view row.now).state && lacks_write count (row_view row.now).writes) }
 {
-    row.is_answered() && lacks_write(count, row.writes.as_slice())
+    has_leaf(row) && lacks_write(count, row.writes.as_slice())
 }
 
-// Whether it lacks one of the leaves of these rows.
+// Whether it lacks one of the leaves of these rows. A function of its own: inside the generic one below, the proof of the chain does not close.
 fn rows_lack(count: u64, rows: &[Row]) -> bool
     ensures { result ≡ list_any (λ x. is_answered (row_view x).state && lacks_write count (row_view x).writes) rows.now }
 {

@@ -7,6 +7,7 @@ ghost use Rattle.ledger.specs.Model.{is_answered};
 ghost use Rattle.ledger.specs.View.{view, row_view};
 
 use crate::archive::Archive;
+use crate::lacking::has_leaf;
 use ledger::job::Row;
 use shelves::shelf::Shelf;
 use values::value::Value;
@@ -31,7 +32,7 @@ pub(crate) fn leaf_count(rows: &[Row]) -> usize
     ensures value { result ≡ count_by (λ x. is_answered x.state) (map row_view rows.now) }
     ensures bound { result ≤ length rows.now }
 {
-    rows.iter().filter(|row| row.is_answered()).count()
+    rows.iter().filter(|row| has_leaf(row)).count()
 }
 
 // The bytes of the leaves of these rows.
@@ -41,7 +42,7 @@ fn leaves_size(rows: &[Row], width: usize) -> u32
     ensures { result ≡ sum_by (λ x. row_size width (row_view x)) (filter (λ x. is_answered (row_view x).state) rows.now) }
 {
     rows.iter()
-        .filter(|row| row.is_answered())
+        .filter(|row| has_leaf(row))
         .map(|row| leaf_size(row, width))
         .sum()
 }

@@ -7,6 +7,7 @@ ghost use Rattle.history.specs.Layout.{coding, leaf_bytes, head_bytes, archive_b
 ghost use Rattle.ledger.specs.View.{view};
 
 use crate::archive::Archive;
+use crate::lacking::has_leaf;
 use crate::leaf::put_leaf;
 use crate::size::leaf_count;
 use encoding::cursor::Cursor;
@@ -30,7 +31,7 @@ impl<'a, S: Shelf> Archive<'a, S> {
     {
         let rows = &self.ledger.rows[..];
         for (job, row) in rows.iter().enumerate() {
-            if row.is_answered() {
+            if has_leaf(row) {
                 put_leaf(job as u16, row, self.shelf, cursor);
             }
         }

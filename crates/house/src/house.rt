@@ -13,6 +13,7 @@ use ledger::offices::Offices;
 use shelves::shelf::Shelf;
 
 // The jobs and records of one forwarder, over a shelf of values.
+// Contracts see it by `model` and not by a `Model`, since they also speak of the shelf itself, which stays as it is at all calls but an accepted write.
 #[derive(Drop)]
 pub struct House<S> {
     pub(crate) offices: Offices,

@@ -17,7 +17,8 @@ use shelves::shelf::Shelf;
 // It cannot be let go in any other way: its `drop` asks that it is spent, and no slip that a program holds is, so the check refuses a program that leaves one over.
 pub struct Slip {
     job: u64,
-    // whether the slip was given up to a close; only `spend` sets it, and then the slip is gone
+    // whether the slip was given up to a close; only `spend` sets it, and then the slip is gone.
+    // A flag and no type of its own, since `drop` must have a precondition that some slip meets.
     spent: bool,
 }
 

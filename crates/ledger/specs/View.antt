@@ -1,4 +1,4 @@
--- What the tables of the code mean; every contract of the ledger goes by it. Assumes nothing.
+-- What the tables of the code mean; every contract of the ledger goes by it. A view, and no `Model` of the tables, since the archive and the house read their fields. Assumes nothing.
 use Rattle.std.specs.Prelude.{map, reverse}
 use Rattle.ledger.specs.Model.{RowModel, LedgerModel}
 use Rattle.ledger.specs.declared.job.Row.{Row}

@@ -52,7 +52,7 @@ pub enum State {
 }
 
 impl State {
-    // The number by which a state is told.
+    // The number by which a state is told. A match, since `Dropped` holds a mark, and such an enum has no discriminants to cast.
     pub fn number(&self) -> u8
         ensures { result ≡ state_number self.now }
     {

@@ -11,6 +11,7 @@ use crate::limits::MOST_OFFICES;
 use crate::message::{Exchange, Message, Outcome, Vote};
 use crate::office::Office;
 
+// The mark of a vote that refuses.
 fn refusal(vote: Option<Vote>) -> Option<Mark>
     ensures { result ≡ refusal_of vote }
 {
@@ -20,7 +21,7 @@ fn refusal(vote: Option<Vote>) -> Option<Mark>
     }
 }
 
-// The mark of the lowest-numbered office that refused.
+// The mark of the lowest-numbered office that refused. A loop: with `find_map` in its place the goal stays open.
 fn first_refusal(exchanges: &[Exchange]) -> Option<Mark>
     ensures { result ≡ first_refusal_of exchanges.now }
 {
