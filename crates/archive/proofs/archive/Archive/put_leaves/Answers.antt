@@ -33,7 +33,7 @@ loop-job-preserved g c =
     elim c.if-has_leaf.branch [
       | then-has_leaf w ↦
           turn_with_leaf m items rows i d c.loop-job.cursor c.loop-job-test.true w.put_leaf.new.cursor _ whole w.cursor-is (told ∙ w.if-has_leaf.true)
-          (w.put_leaf.ensures ∙ ap (λ (x : Row). put_bytes (leaf_bytes m (row_leaf items i (row_view x))) c.loop-job.cursor) (sym q)) c.loop-job.invariant
+          (subst (λ (x : Row). w.put_leaf.new.cursor ≡ put_bytes (leaf_bytes m (row_leaf items i (row_view x))) c.loop-job.cursor) (sym q) w.put_leaf.ensures) c.loop-job.invariant
       | else-has_leaf w ↦
           turn_without m items rows i d c.loop-job.cursor c.loop-job-test.true _ whole w.cursor-is (told ∙ w.if-has_leaf.false) c.loop-job.invariant
     ]
