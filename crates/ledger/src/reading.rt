@@ -124,11 +124,7 @@ impl Ledger {
         ensures { result ≡ (if is_new (row_of (view self.now) job) «record» then Some (newest_of (view self.now) (row_of (view self.now) job) «record») else None) }
     {
         let row = &self.rows[job as usize];
-        if row.is_new_read(record) {
-            Some(self.newest(row, record))
-        } else {
-            None
-        }
+        row.is_new_read(record).then(|| self.newest(row, record))
     }
 
     // Lists a first reading; the read has been checked.
