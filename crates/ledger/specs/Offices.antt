@@ -1,4 +1,4 @@
--- Which office owns a record; src/offices.rt cites it. Assumes nothing.
+-- Which office owns a record; `src/office.rt` and the calls that go by offices cite it. Assumes nothing.
 use Rattle.std.specs.Prelude.{ℕ, ◌%◌}
 use Rattle.ledger.specs.declared.offices.Offices.{Offices}
 
