@@ -14,6 +14,7 @@ use shelves::shelf::Shelf;
 
 // The jobs and records of one forwarder, over a shelf of values.
 // Contracts see it by `model` and not by a `Model`, since they also speak of the shelf itself, which stays as it is at all calls but an accepted write.
+// Each contract has its clauses `told`, `after` and `shelf` in full, so that in each it can be read that a refusal changes nothing.
 #[derive(Drop)]
 pub struct House<S> {
     pub(crate) offices: Offices,
