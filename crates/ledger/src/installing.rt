@@ -62,10 +62,9 @@ impl Ledger {
         ensures value { result.now ≡ versions (view self.now) «record» }
         ensures bound { length result.now ≤ 32 }
     {
-        match self.records.get(record as usize) {
-            Some(versions) => versions.as_slice(),
-            None => &[],
-        }
+        self.records
+            .get(record as usize)
+            .map_or(&[], |versions| versions.as_slice())
     }
 
     // How many versions a record has.
