@@ -45,7 +45,7 @@ impl Row {
                 vote: None,
             }
         } else {
-            Exchange::idle()
+            Exchange::default()
         }
     }
 
