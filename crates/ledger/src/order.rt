@@ -69,6 +69,7 @@ pub(crate) fn is_pending(row: &Row) -> bool
 }
 
 // Whether, of these rows, that of another job than this holds back the job with the row: it is pending and precedes that.
+// With one function over a test for this and `some_conflicts`, the goal of its `any` stays open: of a test that is passed in only the calls are known.
 fn some_holds_back(rows: &[Row], job: u8, held: &Row) -> bool
     ensures { result ≡ any_indexed (λ k x. not (k == job) && (pending (row_view x) && preceding (row_view x) (row_view held.now))) 0 rows.now }
 {

@@ -25,6 +25,7 @@ impl Row {
     }
 }
 
+// With one function over a test for the four searches of the office's records here, the goal of its `any` stays open, and each caller asks for a proof.
 // Whether a write is to a record of the office that another job uses.
 fn writes_used(writes: &[Write], holder: &Row, office: Office) -> bool
     ensures { result ≡ list_any (λ z. owned office.offices office.number z.«record» && listed (row_view holder.now) z.«record») writes.now }
@@ -51,6 +52,7 @@ fn conflicts(row: &Row, holder: &Row, office: Office) -> bool
 }
 
 // Whether, of these rows, that of another job than this conflicts with the job's.
+// Apart from `some_holds_back` of the order, for the reason that stands there.
 fn some_conflicts(rows: &[Row], job: u8, row: &Row, office: Office) -> bool
     ensures { result ≡ any_indexed (λ k x. not (k == job) && conflicting (office_of office.offices) (row_view row.now) office.number (row_view x)) 0 rows.now }
 {
