@@ -12,7 +12,6 @@ use crate::job::{JobKind, Row, State};
 use crate::ledger::Ledger;
 use crate::message::{Message, Outcome};
 use crate::numbers::job_number;
-use crate::office::Office;
 use crate::offices::Offices;
 
 impl Row {
@@ -36,13 +35,7 @@ impl Ledger {
         ensures after { view self.new ≡ guarded (deliver_fault offices.count (view self.old) job office) (view self.old) (deliver_done (office_of offices) (view self.old) job office) }
     {
         let job = job_number(job)?;
-        if office >= offices.count() as u64 {
-            return Err(LedgerFault::OfficeNumber);
-        }
-        let office = Office {
-            offices,
-            number: office as u8,
-        };
+        let office = offices.office(office)?;
         let row = &self.rows[job as usize];
         row.check_amendment()?;
         match (row.state, row.exchanges[office.index()].waiting) {

@@ -1,10 +1,10 @@
 // Hand in: a prepare goes to every office of a listed record, and the vote begins.
-ghost use Rattle.std.specs.Prelude.{◌≡◌, ◌<◌, ◌&&◌, if◌then◌else◌, nat_eq};
+ghost use Rattle.std.specs.Prelude.{◌≡◌, ◌<◌, ◌&&◌, if◌then◌else◌};
 ghost use Rattle.std.specs.List.{list_any};
 ghost use Rattle.ledger.specs.Delivering.{is_concerned as concerned, prepare_waits, prepares as prepares_of, handed_in, is_empty, hand_in_fault, hand_in_done};
 ghost use Rattle.ledger.specs.Faults.{told, guarded};
 ghost use Rattle.ledger.specs.Model.{idle};
-ghost use Rattle.ledger.specs.Offices.{office_of};
+ghost use Rattle.ledger.specs.Offices.{office_of, owns as owned};
 ghost use Rattle.ledger.specs.View.{view, row_view};
 ghost use Rattle.ledger.specs.declared.job.State.TheVariants.{Accepted, Voting};
 
@@ -21,7 +21,7 @@ use std::array;
 
 // Whether some entry is of a record of the office.
 fn any_owned<E: Entry>(entries: &[E], office: Office) -> bool
-    ensures { result ≡ list_any (λ x. nat_eq (office_of office.offices (E.record_of x)) office.number) entries.now }
+    ensures { result ≡ list_any (λ x. owned office.offices office.number (E.record_of x)) entries.now }
 {
     entries.iter().any(|entry| office.owns(entry.record()))
 }
@@ -45,7 +45,7 @@ impl Row {
                 vote: None,
             }
         } else {
-            Exchange::idle()
+            Exchange::default()
         }
     }
 

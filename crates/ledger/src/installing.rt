@@ -52,7 +52,7 @@ impl Row {
         ensures { row_view self.new ≡ with_exchange (record { kind = self.old.kind; state = self.old.state; reads = self.old.reads.items; writes = writes.items; exchanges = self.old.exchanges }) office.number idle }
     {
         self.writes = writes;
-        self.exchanges[office.index()] = Exchange::idle();
+        self.exchanges[office.index()] = Exchange::default();
     }
 }
 
@@ -62,10 +62,9 @@ impl Ledger {
         ensures value { result.now ≡ versions (view self.now) «record» }
         ensures bound { length result.now ≤ 32 }
     {
-        match self.records.get(record as usize) {
-            Some(versions) => versions.as_slice(),
-            None => &[],
-        }
+        self.records
+            .get(record as usize)
+            .map_or(&[], |versions| versions.as_slice())
     }
 
     // How many versions a record has.
@@ -114,6 +113,6 @@ impl Ledger {
     pub(crate) fn release(&mut self, job: u8, office: Office)
         ensures { view self.new ≡ put_row (view self.old) job (with_exchange (row_of (view self.old) job) office.number idle) }
     {
-        self.rows[job as usize].set_exchange(office, Exchange::idle());
+        self.rows[job as usize].set_exchange(office, Exchange::default());
     }
 }

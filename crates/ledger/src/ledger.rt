@@ -29,7 +29,7 @@ impl Row {
             state: State::NeverOpened,
             reads: ArrayVec::new(),
             writes: ArrayVec::new(),
-            exchanges: [Exchange::idle(); MOST_OFFICES],
+            exchanges: [Exchange::default(); MOST_OFFICES],
         }
     }
 }

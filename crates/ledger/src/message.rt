@@ -1,8 +1,4 @@
 // What passes between a job and an office: two-phase commit.
-ghost use Rattle.std.specs.Prelude.{◌≡◌};
-ghost use Rattle.ledger.specs.Delivering.{is_yes};
-ghost use Rattle.ledger.specs.Model.{idle as idle_exchange};
-
 use crate::job::Mark;
 
 // An office's answer to a prepare.
@@ -30,20 +26,8 @@ pub enum Message {
 
 // Between one job and one office: the message that waits, and the vote that the office has cast and that still stands.
 // While a yes stands, the office holds the job's records. At first nothing waits, and no vote stands.
-#[derive(Clone, Copy, PartialEq, Eq, Debug)]
+#[derive(Clone, Copy, PartialEq, Eq, Debug, Default)]
 pub struct Exchange {
     pub waiting: Option<Message>,
     pub vote: Option<Vote>,
-}
-
-impl Exchange {
-    // Nothing waits, and no vote stands.
-    pub(crate) fn idle() -> Exchange
-        ensures { result ≡ idle_exchange }
-    {
-        Exchange {
-            waiting: None,
-            vote: None,
-        }
-    }
 }

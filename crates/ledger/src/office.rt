@@ -1,6 +1,6 @@
 // One office, as calls name it.
-ghost use Rattle.std.specs.Prelude.{◌≡◌, ◌<◌, ◌==◌};
-ghost use Rattle.ledger.specs.Offices.{office_of};
+ghost use Rattle.std.specs.Prelude.{◌≡◌, ◌<◌};
+ghost use Rattle.ledger.specs.Offices.{owns as owned};
 
 use crate::offices::Offices;
 
@@ -23,7 +23,7 @@ impl Office {
 
     // Whether a record belongs to the office.
     pub(crate) fn owns(self, record: u8) -> bool
-        ensures { result ≡ (office_of self.offices «record» == self.number) }
+        ensures { result ≡ owned self.offices self.number «record» }
     {
         self.offices.office_of(record) == self.number
     }

@@ -1,8 +1,11 @@
 // How many offices a house has.
-ghost use Rattle.std.specs.Prelude.{◌≡◌, ◌%◌, ◌<◌, ◌≤◌};
+ghost use Rattle.std.specs.Prelude.{◌≡◌, ◌%◌, ◌<◌, ◌≤◌, IfOk, IfErr};
 ghost use Rattle.ledger.specs.Limits.{offices_built};
+ghost use Rattle.ledger.specs.declared.fault.LedgerFault.TheVariants.{OfficeNumber};
 
+use crate::fault::LedgerFault;
 use crate::limits::MOST_OFFICES;
+use crate::office::Office;
 
 // 1 to 8 offices, numbered from 0. An office is a participant of two-phase commit:
 // it owns the records whose number, divided by the number of offices, leaves the office's number.
@@ -29,6 +32,20 @@ impl Offices {
         ensures bound { result ≤ 8 }
     {
         self.count
+    }
+
+    // The office of a number.
+    pub(crate) fn office(self, number: u64) -> Result<Office, LedgerFault>
+        ensures named { IfOk result (λ office. (office.offices ≡ self) × (office.number ≡ number) × (number < self.count)) }
+        ensures refused { IfErr result (λ why. (why ≡ OfficeNumber) × (self.count ≤ number)) }
+    {
+        if number >= self.count as u64 {
+            return Err(LedgerFault::OfficeNumber);
+        }
+        Ok(Office {
+            offices: self,
+            number: number as u8,
+        })
     }
 
     // The number of the office that owns a record.

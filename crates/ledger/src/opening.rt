@@ -58,10 +58,10 @@ impl Ledger {
         ensures after { view self.new ≡ guarded (open_fault (view self.old) job) (view self.old) (open_done (view self.old) kind job) }
     {
         let job = job_number(job)?;
-        match self.state(job) {
-            State::NeverOpened => self.rows[job as usize].start(kind),
-            _ => return Err(LedgerFault::JobTaken),
+        if self.state(job) != State::NeverOpened {
+            return Err(LedgerFault::JobTaken);
         }
+        self.rows[job as usize].start(kind);
         Ok(())
     }
 

@@ -1,28 +1,13 @@
 // The order among jobs that their readings and writes set, and who holds a job back by it.
-ghost use Rattle.std.specs.Prelude.{◌≡◌, not, ◌&&◌, ◌||◌, ◌==◌, nat_le, nat_lt};
+ghost use Rattle.std.specs.Prelude.{◌≡◌, not, ◌&&◌, ◌||◌, ◌==◌};
 ghost use Rattle.std.specs.List.{list_any};
 ghost use Rattle.ledger.specs.Answering.{is_held, is_pending as pending, precedes as preceding, precedes_in as preceding_in};
-ghost use Rattle.ledger.specs.Model.{first_unseen};
 ghost use Rattle.ledger.specs.Searching.{any_indexed};
 ghost use Rattle.ledger.specs.View.{view, row_view};
 
-use crate::job::{JobKind, Read, Row, State};
+use crate::job::{JobKind, Row, State};
 use crate::ledger::Ledger;
 use crate::lookups::{Entry, installed_version, listed_version};
-
-// Whether the listed read of a record is at a version or above it.
-fn has_seen(reads: &[Read], record: u8, version: u8) -> bool
-    ensures { result ≡ nat_lt version (first_unseen reads.now «record») }
-{
-    listed_version(reads, record).is_some_and(|read| version <= read)
-}
-
-// Whether the listed read of a record is below a version.
-fn has_read_below(reads: &[Read], record: u8, version: u8) -> bool
-    ensures { result ≡ nat_lt 0 (first_unseen reads.now «record») && nat_le (first_unseen reads.now «record») version }
-{
-    listed_version(reads, record).is_some_and(|read| read < version)
-}
 
 // Whether the first job precedes the later one in a record: the later one saw or overwrote the version that the first installed,
 // or overwrote the version that the first read.
@@ -31,10 +16,13 @@ fn precedes_in(first: &Row, later: &Row, record: u8) -> bool
 {
     let first_installed = installed_version(first.writes.as_slice(), record);
     let later_installed = installed_version(later.writes.as_slice(), record);
+    let first_reads = first.reads.as_slice();
+    let later_reads = later.reads.as_slice();
     (first_installed > 0
-        && (has_seen(later.reads.as_slice(), record, first_installed)
+        && (listed_version(later_reads, record).is_some_and(|read| first_installed <= read)
             || first_installed < later_installed))
-        || (later_installed > 0 && has_read_below(first.reads.as_slice(), record, later_installed))
+        || (later_installed > 0
+            && listed_version(first_reads, record).is_some_and(|read| read < later_installed))
 }
 
 // Whether the first job precedes the later one in the record of some entry.
@@ -81,6 +69,7 @@ pub(crate) fn is_pending(row: &Row) -> bool
 }
 
 // Whether, of these rows, that of another job than this holds back the job with the row: it is pending and precedes that.
+// With one function over a test for this and `some_conflicts`, the goal of its `any` stays open: of a test that is passed in only the calls are known.
 fn some_holds_back(rows: &[Row], job: u8, held: &Row) -> bool
     ensures { result ≡ any_indexed (λ k x. not (k == job) && (pending (row_view x) && preceding (row_view x) (row_view held.now))) 0 rows.now }
 {

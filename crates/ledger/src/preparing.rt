@@ -4,7 +4,7 @@ ghost use Rattle.std.specs.List.{list_any};
 ghost use Rattle.ledger.specs.Delivering.{holds as holding, with_exchange, vote_waits, conflicts as conflicting, has_conflict, vote_of};
 ghost use Rattle.ledger.specs.Limits.{most_versions};
 ghost use Rattle.ledger.specs.Model.{row as row_of, versions, exchange as exchange_of, put_row, has_written, is_listed as listed};
-ghost use Rattle.ledger.specs.Offices.{office_of};
+ghost use Rattle.ledger.specs.Offices.{office_of, owns as owned};
 ghost use Rattle.ledger.specs.Searching.{any_indexed};
 ghost use Rattle.ledger.specs.View.{view, row_view};
 
@@ -25,16 +25,17 @@ impl Row {
     }
 }
 
+// With one function over a test for the four searches of the office's records here, the goal of its `any` stays open, and each caller asks for a proof.
 // Whether a write is to a record of the office that another job uses.
 fn writes_used(writes: &[Write], holder: &Row, office: Office) -> bool
-    ensures { result ≡ list_any (λ z. (office_of office.offices z.«record» == office.number) && listed (row_view holder.now) z.«record») writes.now }
+    ensures { result ≡ list_any (λ z. owned office.offices office.number z.«record» && listed (row_view holder.now) z.«record») writes.now }
 {
     writes.iter().any(|write| office.owns(write.record) && holder.is_listed(write.record))
 }
 
 // Whether a read is of a record of the office that another job writes.
 fn reads_written(reads: &[Read], holder: &Row, office: Office) -> bool
-    ensures { result ≡ list_any (λ z. (office_of office.offices z.«record» == office.number) && has_written (row_view holder.now).writes z.«record») reads.now }
+    ensures { result ≡ list_any (λ z. owned office.offices office.number z.«record» && has_written (row_view holder.now).writes z.«record») reads.now }
 {
     reads.iter().any(|read| {
         office.owns(read.record) && is_written(holder.writes.as_slice(), read.record)
@@ -51,6 +52,7 @@ fn conflicts(row: &Row, holder: &Row, office: Office) -> bool
 }
 
 // Whether, of these rows, that of another job than this conflicts with the job's.
+// Apart from `some_holds_back` of the order, for the reason that stands there.
 fn some_conflicts(rows: &[Row], job: u8, row: &Row, office: Office) -> bool
     ensures { result ≡ any_indexed (λ k x. not (k == job) && conflicting (office_of office.offices) (row_view row.now) office.number (row_view x)) 0 rows.now }
 {
@@ -68,7 +70,7 @@ impl Ledger {
 
     // Whether a read of the office's records is not of the newest version.
     fn is_stale(&self, reads: &[Read], office: Office) -> bool
-        ensures { result ≡ list_any (λ z. (office_of office.offices z.«record» == office.number) && not (z.version == length (versions (view self.now) z.«record»))) reads.now }
+        ensures { result ≡ list_any (λ z. owned office.offices office.number z.«record» && not (z.version == length (versions (view self.now) z.«record»))) reads.now }
     {
         reads.iter().any(|read| {
             office.owns(read.record) && read.version != self.version_count(read.record)
@@ -77,7 +79,7 @@ impl Ledger {
 
     // Whether a written record of the office has all its versions.
     fn is_full(&self, writes: &[Write], office: Office) -> bool
-        ensures { result ≡ list_any (λ z. (office_of office.offices z.«record» == office.number) && most_versions == length (versions (view self.now) z.«record»)) writes.now }
+        ensures { result ≡ list_any (λ z. owned office.offices office.number z.«record» && most_versions == length (versions (view self.now) z.«record»)) writes.now }
     {
         writes.iter().any(|write| {
             office.owns(write.record) && self.version_count(write.record) as usize == MOST_VERSIONS

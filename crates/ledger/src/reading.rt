@@ -57,7 +57,7 @@ impl Row {
 
 impl Ledger {
     // The highest version of a record whose job is answered, or 0, the version of a blank.
-    // A loop: with `rposition` in its place the goal stays open, since that speaks of a run from the back.
+    // A loop: with `rposition`, with `filter` and `last`, or with `fold` in its place the goal stays open.
     fn newest_answered(&self, record: u8) -> u8
         ensures { result ≡ newest_answered (view self.now) «record» }
     {

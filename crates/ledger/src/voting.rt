@@ -42,10 +42,7 @@ fn decided_state(refusal: Option<Mark>) -> State
 fn outcome(refusal: Option<Mark>) -> Outcome
     ensures { result ≡ outcome_of refusal }
 {
-    match refusal {
-        None => Outcome::Commit,
-        Some(_) => Outcome::Abort,
-    }
+    refusal.map_or(Outcome::Commit, |_| Outcome::Abort)
 }
 
 // How a decided job stands with an office: one that voted is told.

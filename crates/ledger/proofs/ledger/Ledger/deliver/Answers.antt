@@ -2,7 +2,6 @@ use Rattle.std.proofs.Common.{◌≡◌, ◌≤◌, true, Some, ◌∙◌, arith
 use Rattle.std.proofs.lemmas.Grind.{common_steps}
 use Rattle.ledger.specs.Limits.{last_job}
 use Rattle.ledger.specs.Model.{row, exchange, is_amendment}
-use Rattle.ledger.specs.Offices.{office_of}
 use Rattle.ledger.specs.View.{view}
 use Rattle.ledger.specs.declared.job.State.TheVariants.{Voting}
 use Rattle.ledger.specs.declared.message.Message.TheVariants.{Prepare}
@@ -18,4 +17,5 @@ returns-in-Voting-Some-Prepare-clause-after c =
     let a : is_amendment (row l c.args.job).kind ≡ true = grind (arith, common_steps, one_row) in
     let s : (row l c.args.job).state ≡ Voting = grind (arith, common_steps, one_row) in
     let m : (exchange (row l c.args.job) c.args.office).waiting ≡ Some Prepare = grind (arith, common_steps, one_row) in
-    c.prepare.ensures ∙ prepared (office_of c.args.offices) c.args.offices.count l c.args.job c.args.office c.in_ok-job.job n h (grind arith) a s m
+    let q : c.in_ok-office.office.number ≡ c.args.office = grind arith in
+    c.prepare.ensures ∙ prepared c.args.offices l c.args.job c.args.office c.in_ok-job.job n c.in_ok-office.office.offices (grind arith) c.in_ok-office.office.number q h (grind arith) a s m
