@@ -1,2 +1,3 @@
+pub mod Archives
 pub mod Leaves
 pub mod Sizes

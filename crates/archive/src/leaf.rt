@@ -6,6 +6,7 @@ ghost use Rattle.archive.specs.Leaves.{leaf_writes, row_leaf, lacks_write};
 ghost use Rattle.history.specs.Layout.{coding, leaf_frame, read_bytes, write_bytes, leaf_bytes};
 ghost use Rattle.ledger.specs.View.{row_view};
 
+use crate::frame::Frame;
 use crate::size::leaf_size;
 use encoding::cursor::Cursor;
 use ledger::job::{JobKind, Read, Row, Write};
@@ -15,13 +16,13 @@ use values::value::Value;
 // The most bytes that a value of any kind has.
 const MOST_WIDTH: usize = 32;
 
-// The kind of a leaf's frame, a number of the format.
+// The number of the kind of a leaf's frame.
 fn frame_kind(kind: JobKind) -> u16
     ensures { result ≡ leaf_frame kind }
 {
     match kind {
-        JobKind::Amendment => 2,
-        JobKind::Inspection => 3,
+        JobKind::Amendment => Frame::Amendment as u16,
+        JobKind::Inspection => Frame::Inspection as u16,
     }
 }
 

@@ -3,6 +3,7 @@
 #![tactic(auto)]
 
 pub mod archive;
+mod frame;
 pub mod lacking;
 pub mod leaf;
 pub mod size;

@@ -1,10 +1,9 @@
 // How many leaves an archive has, and how many bytes it takes.
 ghost use Rattle.std.specs.Prelude.{◌≡◌, ◌≤◌, filter, map, length, sum_by, count_by};
-ghost use Rattle.archive.specs.Leaves.{row_leaves};
+ghost use Rattle.archive.specs.Archives.{ledger_bytes};
 ghost use Rattle.archive.specs.Sizes.{row_size};
-ghost use Rattle.history.specs.Layout.{coding, archive_bytes};
 ghost use Rattle.ledger.specs.Model.{is_answered};
-ghost use Rattle.ledger.specs.View.{view, row_view};
+ghost use Rattle.ledger.specs.View.{row_view};
 
 use crate::archive::Archive;
 use crate::lacking::has_leaf;
@@ -50,7 +49,7 @@ fn leaves_size(rows: &[Row], width: usize) -> u32
 impl<'a, S: Shelf> Archive<'a, S> {
     // How many bytes the archive takes.
     pub fn size(&self) -> usize
-        ensures { result ≡ length (archive_bytes (coding S.Value.Value) (row_leaves (S.items self.now.shelf.now) 0 (view self.now.ledger.now).rows)) }
+        ensures { result ≡ length (ledger_bytes S.Value.Value (S.items self.now.shelf.now) self.now.ledger.now) }
     {
         HEAD_SIZE + leaves_size(&self.ledger.rows[..], S::Value::WIDTH) as usize
     }

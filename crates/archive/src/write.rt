@@ -2,11 +2,11 @@
 ghost use Rattle.std.specs.Prelude.{◌≡◌, ◌≤◌, length};
 ghost use Rattle.std.specs.List.{flat_map};
 ghost use Rattle.encoding.specs.Outputs.{put_bytes, in_front};
-ghost use Rattle.archive.specs.Leaves.{row_leaves};
-ghost use Rattle.history.specs.Layout.{coding, leaf_bytes, head_bytes, archive_bytes};
-ghost use Rattle.ledger.specs.View.{view};
+ghost use Rattle.archive.specs.Archives.{ledger_leaves, ledger_bytes};
+ghost use Rattle.history.specs.Layout.{coding, leaf_bytes, head_bytes};
 
 use crate::archive::Archive;
+use crate::frame::Frame;
 use crate::lacking::has_leaf;
 use crate::leaf::put_leaf;
 use crate::size::leaf_count;
@@ -18,7 +18,7 @@ use values::value::Value;
 fn put_head<V: Value>(leaves: u16, cursor: &mut Cursor<'_>)
     ensures { cursor.new ≡ put_bytes (head_bytes (coding V.Value) leaves) cursor.old }
 {
-    cursor.put_frame_head(8, 1);
+    cursor.put_frame_head(8, Frame::Head as u16);
     cursor.put_all(&leaves.to_le_bytes());
     cursor.put_all(&V::KIND.to_le_bytes());
     cursor.put_all(&(V::WIDTH as u16).to_le_bytes());
@@ -27,7 +27,7 @@ fn put_head<V: Value>(leaves: u16, cursor: &mut Cursor<'_>)
 impl<'a, S: Shelf> Archive<'a, S> {
     // The leaves of the answered jobs.
     fn put_leaves(&self, cursor: &mut Cursor<'_>)
-        ensures { cursor.new ≡ put_bytes (flat_map (leaf_bytes (coding S.Value.Value)) (row_leaves (S.items self.now.shelf.now) 0 (view self.now.ledger.now).rows)) cursor.old }
+        ensures { cursor.new ≡ put_bytes (flat_map (leaf_bytes (coding S.Value.Value)) (ledger_leaves (S.items self.now.shelf.now) self.now.ledger.now)) cursor.old }
     {
         let rows = &self.ledger.rows[..];
         for (job, row) in rows.iter().enumerate() {
@@ -39,8 +39,8 @@ impl<'a, S: Shelf> Archive<'a, S> {
 
     // Writes the archive to the front of a buffer that has room for it; the bytes behind it stay.
     pub fn write(&self, buffer: &mut [u8])
-        requires { length (archive_bytes (coding S.Value.Value) (row_leaves (S.items self.now.shelf.now) 0 (view self.now.ledger.now).rows)) ≤ length buffer.old }
-        ensures { buffer.new ≡ in_front (archive_bytes (coding S.Value.Value) (row_leaves (S.items self.now.shelf.now) 0 (view self.now.ledger.now).rows)) buffer.old }
+        requires { length (ledger_bytes S.Value.Value (S.items self.now.shelf.now) self.now.ledger.now) ≤ length buffer.old }
+        ensures { buffer.new ≡ in_front (ledger_bytes S.Value.Value (S.items self.now.shelf.now) self.now.ledger.now) buffer.old }
     {
         let mut cursor = Cursor {
             buffer,

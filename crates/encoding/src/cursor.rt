@@ -5,7 +5,7 @@ ghost use Rattle.encoding.specs.Bytes.{little_endian};
 ghost use Rattle.encoding.specs.Outputs.{put_bytes};
 
 // A buffer that is lent for writing, and the position of the next byte in it.
-// A type of its own, since the kit's writers (`std::io::Write`, `bytes::BufMut`) fill buffers of their own or lists on the heap, and none fills a lent slice.
+// A type of its own: `io::Write` and `bytes::BufMut` for lent slices answer a `Result` that each function here would hand on though room is proved, and `Write for &mut [u8]` tells how many bytes it took, not which stand in the slice.
 #[derive(Drop)]
 pub struct Cursor<'a> {
     pub buffer: &'a mut [u8],
@@ -17,6 +17,7 @@ impl<'a> Cursor<'a> {
     pub fn put(&mut self, byte: u8)
         ensures { self.new ≡ put_bytes (byte ∷ []) self.old }
     {
+        // no `get_mut`: once its borrow is over, nothing is known of the buffer's bytes
         if self.position < self.buffer.len() {
             self.buffer[self.position] = byte;
             self.position += 1;

@@ -14,6 +14,7 @@ use values::value::Value;
 const FRAME_HEAD: usize = 6;
 
 // A shelf over lent bytes, of which the first `len` frames hold the values; the bytes behind them may be anything.
+// Not one type with `CellShelf`: a trait for the two kinds of lent memory would have a constructor, reading, writing, room and their laws for two short bodies each.
 #[derive(Drop)]
 pub struct ByteShelf<'a, V: Value> {
     bytes: &'a mut [u8],
@@ -107,6 +108,7 @@ fn write_frame<V: Value>(out: &mut [u8], value: V)
 }
 
 // The value in the frame at a place, or the spare value if it holds none.
+// No `chunks_exact(size).nth(place)`: it gives an `Option`, though each place that is asked for has a frame.
 fn frame_value<V: Value>(bytes: &[u8], place: usize) -> V
     requires { place < frames_in V.Value (length bytes.now) }
     ensures { result ≡ value_in_frame V.Value bytes.now place }

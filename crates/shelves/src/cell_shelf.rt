@@ -48,12 +48,14 @@ impl<'a, V: Value> Shelf for CellShelf<'a, V> {
         if place >= room_of(self.cells.len()) {
             return Err(ShelfFault::Full);
         }
+        // no `get_mut` with the limit in the test: once its borrow is over, nothing is known of the cells
         self.cells[place] = value.to_cell();
         self.len = place + 1;
         Ok(place as u64)
     }
 
     fn fetch(&self, place: u64) -> Result<V, ShelfFault> {
+        // no `get`: the cells behind the last value are there too, so it would find one for a place that holds none
         if place >= self.len() {
             return Err(ShelfFault::NoSuchPlace);
         }

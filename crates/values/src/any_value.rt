@@ -9,9 +9,8 @@ pub fn reencode<V: Value>(encoded: &[u8], out: &mut [u8]) -> bool
     ensures told { result ≡ reencodes V.Value encoded.now out.old }
     ensures copied { out.new ≡ (if reencodes V.Value encoded.now out.old then encoded.now else out.old) }
 {
-    // not `is_ok_and`: with it the proof of `copied` did not close, since nothing is known of what its closure leaves in `out`
-    match V::decode(encoded) {
-        Ok(value) => value.encode(out),
-        Err(_) => false,
-    }
+    let Ok(value) = V::decode(encoded) else {
+        return false;
+    };
+    value.encode(out)
 }

@@ -30,7 +30,7 @@ pub enum Standing {
 }
 
 // The numbers of a standing, with no limits: 1, 2 or 3 for lodged, released or stopped, and the day or the reason.
-// A number and no enum for the state, since memory that a caller lends may hold any.
+// A number and no enum for the state: a cell is a plain row of numbers with no limits of its own, and another program may pass any.
 #[derive(Clone, Copy, PartialEq, Eq, Debug, Default)]
 pub struct StandingCell {
     pub state: u8,

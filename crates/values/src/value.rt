@@ -31,8 +31,8 @@ pub trait Value: Copy {
     // a shelf holds only what was added to it, so the spare value never shows
     ghost fallback: { Self };
 
-    // Writes the value's bytes if there is room for exactly these, else nothing; tells which.
-    // A `bool`: no refusal tells of a wrong length, and an `Option<()>` would say no more.
+    // Writes the value's bytes if there is room for exactly these, else nothing; tells which,
+    // so that a caller with a buffer of another length learns that nothing was written.
     fn encode(self, out: &mut [u8]) -> bool
         ensures told { result ≡ (length out.old == WIDTH) }
         ensures written { out.new ≡ (if nat_eq (length out.old) WIDTH then bytes self else out.old) };

@@ -10,12 +10,6 @@ use super::{Day, MOST_REASON, Reason, Standing, StandingCell};
 use crate::fault::ValueFault;
 use crate::value::Value;
 
-const LODGED: u8 = 1;
-
-const RELEASED: u8 = 2;
-
-const STOPPED: u8 = 3;
-
 impl Day {
     // The day with a number; every number of four bytes is a day's.
     pub fn new(number: u32) -> Day
@@ -110,11 +104,12 @@ impl Value for Standing {
         })
     }
 
+    // The numbers of the states stand here and in the function behind it, which turns them back.
     fn to_cell(self) -> StandingCell {
         let (state, number) = match self {
-            Standing::Lodged(day) => (LODGED, day.number),
-            Standing::Released(day) => (RELEASED, day.number),
-            Standing::Stopped(reason) => (STOPPED, reason.number.into()),
+            Standing::Lodged(day) => (1, day.number),
+            Standing::Released(day) => (2, day.number),
+            Standing::Stopped(reason) => (3, reason.number.into()),
         };
         StandingCell { state, number }
     }
@@ -122,9 +117,9 @@ impl Value for Standing {
     fn from_cell(stored: StandingCell) -> Result<Standing, ValueFault> {
         let number = stored.number;
         match stored.state {
-            LODGED => Ok(Standing::Lodged(Day::new(number))),
-            RELEASED => Ok(Standing::Released(Day::new(number))),
-            STOPPED => {
+            1 => Ok(Standing::Lodged(Day::new(number))),
+            2 => Ok(Standing::Released(Day::new(number))),
+            3 => {
                 let reason = Reason::new(number.into()).map_err(|_| ValueFault::NotAValue)?;
                 Ok(Standing::Stopped(reason))
             }

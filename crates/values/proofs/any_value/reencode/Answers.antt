@@ -3,8 +3,8 @@ use Rattle.encoding.proofs.BytesLaws.{octets}
 use Rattle.values.specs.Refusals.{some_from_ok}
 use Rattle.values.proofs.any_value.reencode.Goals as goal
 
-pub returns-in-Ok-clause-copied : goal.returns-in-Ok-clause-copied
-returns-in-Ok-clause-copied g c =
+pub returns-clause-copied : goal.returns-clause-copied
+returns-clause-copied g c =
     let s = c.args.encoded.now in
     let v = c.in-Ok.value in
     let parsed = some_from_ok (g.V.Value.parsed s) _ v c.in-Ok.ensures in
