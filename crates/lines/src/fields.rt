@@ -1,7 +1,7 @@
 // The fields of a line, read one after another from its front.
 ghost use Rattle.std.specs.Prelude.{◌≡◌, ◌^◌, ◌<◌, ◌≤◌, true, Some, None, IfNone, MatchOption, nat_eq, length};
 ghost use Rattle.std.specs.Str.{all_ascii_digits};
-ghost use Rattle.lines.specs.Grammar.{most_digits, digits, written, number, behind, field, signed_field};
+ghost use Rattle.lines.specs.Grammar.{most_digits, digits, written, number, behind, field, signed_field, Taken};
 
 // A number has at most so many digits.
 const MOST_DIGITS: usize = 13;
@@ -20,7 +20,7 @@ fn value(digits: &[u8]) -> u64
     ensures { result ≡ written digits.now }
 {
     let mut value = 0;
-    // A loop, since `parse` makes a day sheet a tenth slower.
+    // A loop: `parse` misses the bar that the day sheet be no slower than the plain one (157 ns for a line, and 140 with the loop).
     for digit in digits {
         value = value * 10 + u64::from(*digit - b'0');
     }
@@ -72,7 +72,7 @@ impl<'a> Fields<'a> {
 
     // Takes a number behind one blank.
     pub(crate) fn number(&mut self) -> Option<u64>
-        ensures { MatchOption result (field self.old.rest.now ≡ None) (λ n. field self.old.rest.now ≡ Some (n, self.new.rest.now)) }
+        ensures { Taken field self.old.rest.now self.new.rest.now result }
     {
         self.byte(b' ')?;
         self.digits()
@@ -80,7 +80,7 @@ impl<'a> Fields<'a> {
 
     // Takes a number behind one blank that may begin with a minus.
     pub(crate) fn signed_number(&mut self) -> Option<i64>
-        ensures { MatchOption result (signed_field self.old.rest.now ≡ None) (λ n. signed_field self.old.rest.now ≡ Some (n, self.new.rest.now)) }
+        ensures { Taken signed_field self.old.rest.now self.new.rest.now result }
     {
         self.byte(b' ')?;
         let negative = self.byte(b'-').is_some();
