@@ -37,7 +37,7 @@ enum Kind {
 }
 
 // What was told. The default is an accepted call with nothing more to tell.
-#[derive(Clone, Copy, Debug, Default)]
+#[derive(Clone, Copy, PartialEq, Eq, Debug, Default)]
 pub struct Answer {
     refusal: Option<Fault>,
     kind: Kind,

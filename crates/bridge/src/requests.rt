@@ -12,7 +12,6 @@ ghost use Rattle.bridge.specs.declared.requests.TheConstants.{REQUEST};
 use house::call::Call;
 use house::fault::Fault;
 use ledger::job::JobKind;
-use std::array;
 use values::value::Value;
 
 // How many bytes a request has.
@@ -36,11 +35,12 @@ pub enum Request<V> {
 fn number_at(bytes: &[u8; REQUEST], start: usize) -> u64
     requires { start + 8 ≤ REQUEST }
 {
-    u64::from_le_bytes(array::from_fn(|i| bytes[start + i]))
+    u64::from_le_bytes(*bytes[start..].first_chunk::<8>().unwrap())
 }
 
 // The value of a write, if there are bytes enough for one of the kind; refused (16) if these are none of the kind.
 fn value_of<V: Value>(bytes: &[u8; REQUEST]) -> Result<Option<V>, Fault> {
+    // Tried with `map(V::decode).transpose()`, and the proof didn't close: the borrow checker does not cover a function with a result of type `V`.
     let Some(encoded) = bytes[1..].get(..V::WIDTH) else {
         return Ok(None);
     };

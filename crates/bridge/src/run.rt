@@ -1,6 +1,4 @@
 // Sequences of requests in a newly built house, over either shelf and either kind of value.
-//
-// C interface: each kind of value and each shelf has exported functions of its own, since a C function has no type parameter.
 ghost use Rattle.std.specs.Prelude.{◌*◌, ◌^◌, ◌<◌};
 ghost use Rattle.std.specs.Mem.{type_size};
 ghost use Rattle.bridge.specs.declared.run.TheConstants.{CELLS};
@@ -130,6 +128,7 @@ fn in_cells<V: Value, R, F: FnOnce(&mut House<CellShelf<'_, V>>) -> R>(
 }
 
 // Builds a house of amounts over so many cells, and does all requests in it.
+// C interface: a C function has no type parameter, so each kind of value and each shelf has functions of its own.
 #[unsafe(no_mangle)]
 pub extern "C" fn bridge_run_amount_cells(
     offices: u64,

@@ -20,7 +20,7 @@ use values::value::Value;
 const OFFICES: u64 = 2;
 
 // What a call told, printed in a word or two.
-#[derive(Clone, Copy)]
+#[derive(Clone, Copy, PartialEq, Eq, Debug)]
 struct Shown<V>(Result<Told<V>, Fault>);
 
 impl<V: Value> fmt::Display for Shown<V> {
@@ -183,6 +183,7 @@ fn crossing(rt: &HostRuntime, value: Amount) -> io::Result<()> {
 }
 
 // A whole job, an inspection that reads what it wrote, and the archive of both.
+// The calls stand in no list, as in `install`: one of a kind that is not known would need a proof that it fits in memory.
 fn whole_job<S: Shelf + Drop>(rt: &HostRuntime, shelf: S, value: S::Value) -> io::Result<()> {
     let mut house = House::new(OFFICES, shelf);
     install(rt, &mut house, 7, 3, value)?;

@@ -18,6 +18,7 @@ pub enum Layer {
     House,
 }
 
+// The letter is the format of an answer.
 impl fmt::Display for Layer {
     ghost output = { λ layer. Some (layer_letter layer) };
 

@@ -36,6 +36,7 @@ fn commit<S: Shelf>(
 }
 
 // Reads one record in an inspection that is held by its slip. The slip is spent before any refusal is passed on.
+// The crate `bridge` has the same function. One of the house itself would be no plainer: it would promise three calls in one clause.
 fn inspect<S: Shelf>(
     house: &mut House<S>,
     job: u64,
@@ -60,7 +61,7 @@ fn refusal_of_second_close<S: Shelf>(
 }
 
 // What an inspection read, printed as a version; blank is version 0.
-#[derive(Clone, Copy)]
+#[derive(Clone, Copy, PartialEq, Eq, Debug)]
 struct Seen<V>(Reading<V>);
 
 impl<V: Value> fmt::Display for Seen<V> {
@@ -74,7 +75,7 @@ impl<V: Value> fmt::Display for Seen<V> {
 }
 
 // What the demonstration finds out.
-#[derive(Clone, Copy)]
+#[derive(Clone, Copy, PartialEq, Eq, Debug)]
 struct Findings<V> {
     before: Seen<V>,
     // the last job that is dropped, and its mark

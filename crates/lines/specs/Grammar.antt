@@ -1,5 +1,5 @@
 -- The fields of a line, each behind one blank: what src/fields.rt and src/parse.rt read. Assumes nothing.
-use Rattle.std.specs.Prelude.{ℕ, ◌+◌, ◌-◌, ◌*◌, cond, ◌&&◌, List, [], ◌∷◌, take, drop, ℤ, pos, neg_ℤ, Some, None, fold, Option, ◌==◌, nat_le}
+use Rattle.std.specs.Prelude.{◌≡◌, ℕ, ◌+◌, ◌-◌, ◌*◌, cond, ◌&&◌, List, [], ◌∷◌, take, drop, ℤ, pos, neg_ℤ, Some, None, MatchOption, fold, Option, ◌==◌, nat_le}
 use Rattle.std.specs.Char.{is_ascii_digit}
 use Rattle.std.specs.List.{prefix_len}
 
@@ -73,3 +73,7 @@ two_fields s = then (field s) (λ p. then (field p.1) (λ q. if_none_left (p.0, 
 -- just a currency and units, which may begin with a minus
 abbrev pub amount_fields : List ℕ → Option (ℕ × ℤ)
 amount_fields s = then (field s) (λ p. then (signed_field p.1) (λ q. if_none_left (p.0, q.0) q.1))
+
+-- r is what a reader takes at the front of the bytes before, and after is what it leaves of them, if it takes something
+abbrev pub Taken : {A : Type 0} → (List ℕ → Option (A × List ℕ)) → List ℕ → List ℕ → Option A → Type 0
+Taken reader before after r = MatchOption r (reader before ≡ None) (λ a. reader before ≡ Some (a, after))

@@ -1,5 +1,5 @@
 -- The text of a whole day; `src/day.rt` cites it. Assumes nothing.
-use Rattle.std.specs.Prelude.{ℕ, ◌+◌, List, [], ◌∷◌, ◌++◌, take, Ok, Err, codes, decimal, Result}
+use Rattle.std.specs.Prelude.{◌≡◌, ℕ, ◌+◌, List, [], ◌∷◌, ◌++◌, take, Ok, Err, OnOk, codes, decimal, Result, String, string_bytes}
 use Rattle.values.specs.declared.amount.Amount.{Amount}
 use Rattle.lines.specs.Cutting.{lines_of, most_input}
 use Rattle.house.specs.Questions.{answered_jobs}
@@ -9,6 +9,10 @@ use Rattle.sheet.specs.Carrying.{line_told, line_after}
 use Rattle.sheet.specs.Refusals.{refusal_text, numbered}
 use Rattle.sheet.specs.declared.answer.Answer.{Answer}
 use Rattle.sheet.specs.declared.refusal.Refusal.{Refusal}
+
+-- where r is no refusal, the bytes stand behind the text before, and that is the text after
+abbrev pub Appended : {T E Z : Type 0} → Result T E → String Z → String Z → List ℕ → Type 0
+Appended r before after bytes = OnOk r (string_bytes after ≡ string_bytes before ++ bytes)
 
 -- line number, `ok` and what was told; or the refusal
 abbrev pub line_text : ℕ → Result Answer Refusal → List ℕ

@@ -15,6 +15,7 @@ pub enum Answer {
     Collected(Collected),
 }
 
+// The text is the format of an answer.
 impl fmt::Display for Answer {
     ghost output = { λ a. Some (answer_text a) };
 
@@ -33,9 +34,10 @@ impl fmt::Display for Answer {
 }
 
 // An amount that is printed as its currency's number and its units.
-#[derive(Clone, Copy)]
+#[derive(Clone, Copy, PartialEq, Eq, Debug)]
 struct Numbers(Amount);
 
+// The text is the format of an amount in an answer.
 impl fmt::Display for Numbers {
     ghost output = { λ n. Some (amount_text n.0) };
 

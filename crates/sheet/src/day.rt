@@ -1,8 +1,8 @@
 // The whole day as one text: an answer for each line, and the answered jobs at its end.
-ghost use Rattle.std.specs.Prelude.{◌≡◌, ◌++◌, take, IfOk, string_bytes, OnOk};
+ghost use Rattle.std.specs.Prelude.{◌≡◌, take, Some, IfOk, string_bytes};
 ghost use Rattle.lines.specs.Cutting.{lines_of, most_input};
 ghost use Rattle.house.specs.Model.{model};
-ghost use Rattle.sheet.specs.Day.{line_text, jobs_text, end_text, lines_text, day_text};
+ghost use Rattle.sheet.specs.Day.{line_text, jobs_text, end_text, lines_text, day_text, Appended};
 
 use crate::answer::Answer;
 use crate::carry_out::carry_out_line;
@@ -21,18 +21,26 @@ const OFFICES: u64 = 2;
 
 const SHELF_BYTES: usize = 1024;
 
-fn write_answer(text: &mut String, line: usize, answer: Result<Answer, Refusal>) -> fmt::Result
-    ensures { OnOk result (string_bytes text.new ≡ string_bytes text.old ++ line_text line answer) }
-{
-    match answer {
-        Ok(told) => writeln!(text, "{line} ok{told}")?,
-        Err(refusal) => writeln!(text, "{refusal}")?,
+// The answer of the line with the number. The text is the format.
+#[derive(Clone, Copy, PartialEq, Eq, Debug)]
+struct AnswerLine {
+    number: usize,
+    answer: Result<Answer, Refusal>,
+}
+
+impl fmt::Display for AnswerLine {
+    ghost output = { λ l. Some (line_text l.number l.answer) };
+
+    fn fmt<W: fmt::Write>(&self, f: &mut fmt::Formatter<W>) -> fmt::Result {
+        match self.answer {
+            Ok(told) => writeln!(f, "{} ok{told}", self.number),
+            Err(refusal) => writeln!(f, "{refusal}"),
+        }
     }
-    Ok(())
 }
 
 fn write_jobs(text: &mut String, jobs: &[u8]) -> fmt::Result
-    ensures { OnOk result (string_bytes text.new ≡ string_bytes text.old ++ jobs_text jobs.now) }
+    ensures { Appended result text.old text.new (jobs_text jobs.now) }
 {
     for job in jobs {
         write!(text, " {job}")?;
@@ -41,7 +49,7 @@ fn write_jobs(text: &mut String, jobs: &[u8]) -> fmt::Result
 }
 
 fn write_end(text: &mut String, jobs: &[u8]) -> fmt::Result
-    ensures { OnOk result (string_bytes text.new ≡ string_bytes text.old ++ end_text jobs.now) }
+    ensures { Appended result text.old text.new (end_text jobs.now) }
 {
     write!(text, "end")?;
     write_jobs(text, jobs)?;
@@ -55,11 +63,12 @@ fn write_lines<S: Shelf<Value = Amount>>(
     house: &mut House<S>,
     input: &[u8],
 ) -> fmt::Result
-    ensures { OnOk result (string_bytes text.new ≡ string_bytes text.old ++ lines_text 1 (model S.Shelf house.old) (lines_of (take most_input input.now))) }
+    ensures { Appended result text.old text.new (lines_text 1 (model S.Shelf house.old) (lines_of (take most_input input.now))) }
 {
     for (i, line) in Lines::new(first_bytes(input)).enumerate() {
-        let answer = carry_out_line(house, line);
-        write_answer(text, i + 1, at_line(i + 1, answer))?;
+        let number = i + 1;
+        let answer = at_line(number, carry_out_line(house, line));
+        write!(text, "{}", AnswerLine { number, answer })?;
     }
     write_end(text, house.answered())
 }

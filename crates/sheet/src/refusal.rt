@@ -56,6 +56,7 @@ pub struct Refusal {
     pub cause: Cause,
 }
 
+// The text is the format of a refused line.
 impl fmt::Display for Refusal {
     ghost output = { λ r. Some (refusal_text r) };
 

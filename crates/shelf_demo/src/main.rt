@@ -14,7 +14,7 @@ use shelves::byte_shelf::ByteShelf;
 use shelves::cell_shelf::CellShelf;
 use shelves::fault::ShelfFault;
 use shelves::shelf::Shelf;
-use std::io;
+use std::{fmt, io};
 use values::amount::{Amount, AmountCell};
 use values::currency::Currency;
 use values::standing::{Day, Reason, Standing, StandingCell};
@@ -81,26 +81,19 @@ fn show(rt: &HostRuntime, bytes: &[u8]) -> io::Result<()> {
     println!(rt; "")
 }
 
-// Amounts in cells and in bytes.
-fn amounts(rt: &HostRuntime, first: Amount, second: Amount) -> io::Result<()> {
-    let mut cells = [AmountCell::default(); 2];
-    let kept = fill(&mut CellShelf::new(&mut cells), first, second);
-    println!(rt; "amounts in cells: {kept:?}")?;
-    let mut bytes = [255; 34];
-    let kept = fill(&mut ByteShelf::new(&mut bytes), first, second);
-    println!(rt; "amounts in bytes: {kept:?}")?;
-    show(rt, &bytes)
-}
-
-// Standings in cells and in bytes.
-fn standings(rt: &HostRuntime, first: Standing, second: Standing) -> io::Result<()> {
-    let mut cells = [StandingCell::default(); 2];
-    let kept = fill(&mut CellShelf::new(&mut cells), first, second);
-    println!(rt; "standings in cells: {kept:?}")?;
-    let mut bytes = [255; 22];
-    let kept = fill(&mut ByteShelf::new(&mut bytes), first, second);
-    println!(rt; "standings in bytes: {kept:?}")?;
-    show(rt, &bytes)
+// Two values of a kind in cells and in bytes that have room for two.
+fn in_both<V: Value + fmt::Debug>(
+    rt: &HostRuntime,
+    kind: &str,
+    [first, second]: [V; 2],
+    cells: &mut [V::Cell],
+    bytes: &mut [u8],
+) -> io::Result<()> {
+    let kept = fill(&mut CellShelf::new(cells), first, second);
+    println!(rt; "{kind} in cells: {kept:?}")?;
+    let kept = fill(&mut ByteShelf::new(bytes), first, second);
+    println!(rt; "{kind} in bytes: {kept:?}")?;
+    show(rt, bytes)
 }
 
 // The three refusals of a value.
@@ -121,7 +114,8 @@ fn main(rt: HostRuntime) -> io::Result<()> {
     if let Ok(dollars) = Amount::new(Currency::Usd, 41_200)
         && let Ok(yen) = Amount::new(Currency::Jpy, -1)
     {
-        amounts(&rt, dollars, yen)?;
+        let mut cells = [AmountCell::default(); 2];
+        in_both(&rt, "amounts", [dollars, yen], &mut cells, &mut [255; 34])?;
         let mut bytes = [255; 18];
         store_in_bytes(&mut bytes, dollars);
         show(&rt, &bytes)?;
@@ -130,11 +124,9 @@ fn main(rt: HostRuntime) -> io::Result<()> {
         println!(rt; "cells: {cells:?}")?;
     }
     if let Ok(reason) = Reason::new(99) {
-        standings(
-            &rt,
-            Standing::Stopped(reason),
-            Standing::Lodged(Day::new(9_000)),
-        )?;
+        let pair = [Standing::Stopped(reason), Standing::Lodged(Day::new(9_000))];
+        let mut cells = [StandingCell::default(); 2];
+        in_both(&rt, "standings", pair, &mut cells, &mut [255; 22])?;
     }
     refusals(&rt)
 }

@@ -5,7 +5,7 @@ use Rattle.sheet.proofs.day.write_lines.Goals as goal
 
 pub loop-i-preserved : goal.loop-i-preserved
 loop-i-preserved g c =
-    line_written _ _ c.in-Some.i c.loop-i.i-iterator.count _ (model g.S.Shelf c.loop-i.house) _ _ _ _ _ _ c.in-Some.ensures.steps c.carry_out_line-answer.ensures.told c.at_line.ensures c.carry_out_line-answer.ensures.after c.in_ok-write_answer.ensures
+    line_written _ _ c.in-Some.i c.loop-i.i-iterator.count _ (model g.S.Shelf c.loop-i.house) _ _ _ _ _ _ c.in-Some.ensures.steps c.carry_out_line.ensures.told c.at_line-answer.ensures c.carry_out_line.ensures.after c.in_ok-write.ensures.bytes
     ∙ c.loop-i.invariant
 
 pub returns : goal.returns
