@@ -1,5 +1,5 @@
 -- What the digits at the front of some bytes write. Assumes nothing.
-use Rattle.std.proofs.Common.{◌≡◌, ℕ, suc, ◌+◌, ◌-◌, ◌*◌, ◌^◌, ◌<◌, ◌≤◌, ◌⊎◌, inl, inr, Bool, true, false, cond, leb, List, [], ◌∷◌, length, get_or, take, drop, Some, None, fold, refl, sym, ◌∙◌, ap, pow-suc, add-one, arith, rules}
+use Rattle.std.proofs.Common.{◌≡◌, ℕ, zero, suc, ◌+◌, ◌-◌, ◌*◌, ◌^◌, ◌<◌, ◌≤◌, ◌⊎◌, inl, inr, Bool, true, false, cond, leb, List, [], ◌∷◌, length, get_or, take, drop, Some, None, fold, refl, sym, ◌∙◌, ap, pow-suc, add-one, arith, rules}
 use native.Mathlib.Nat.{pow-le-pow_right}
 use Rattle.std.proofs.lemmas.Str.Parse.{IsNumeralModel, numerals_by_fold, tells_all_ascii_digits, digit_at, digits_value_short}
 use Rattle.std.proofs.lemmas.Bool.{le-leb, lt-leb}
@@ -53,10 +53,23 @@ front_digits (b ∷ s) = front_with_byte b (is_ascii_digit b) s refl (front_digi
 pub first_are_digits : (s : List ℕ) (n : ℕ) (ds : List ℕ) → n ≡ digits s → ds ≡ take n s → all_ascii_digits ds ≡ true
 first_are_digits s n ds e d = rw (d, e) (front_digits s)
 
-pub no_number : (s : List ℕ) (n : ℕ) → n ≡ digits s → (n ≡ 0) ⊎ ((n ≡ 0 → ⊥) × (most_digits < n)) → number s ≡ None
+-- digits that are counted no further than k: all, where they are fewer, and no more than there are
+counted : (k : ℕ) (s : List ℕ) → (digits (take k s) < k → digits (take k s) ≡ digits s) × (digits (take k s) ≤ digits s)
+counted zero s = (λ h. absurd (omega arith), omega arith)
+counted (suc k) [] = (λ h. refl, omega arith)
+counted (suc k) (b ∷ s) = let ih = counted k s in grind arith
+
+pub all_counted : (s : List ℕ) (n : ℕ) → n ≡ digits (take (most_digits + 1) s) → n ≤ most_digits → n ≡ digits s
+all_counted s n e few = e ∙ (counted (most_digits + 1) s).0 (omega (arith, e, few))
+
+pub no_number : (s : List ℕ) (n : ℕ) → n ≡ digits (take (most_digits + 1) s) → (n ≡ 0) ⊎ ((n ≡ 0 → ⊥) × (most_digits < n)) → number s ≡ None
 unfolding number
-no_number s n e (inl z) = rw (← e, z) refl
-no_number s n e (inr (some, many)) = let l : leb n most_digits ≡ false = lt-leb _ _ many in let f : leb 1 n ≡ true = le-leb _ _ (omega arith) in rw (← e, f, l) refl
+no_number s n e (inl z) = let d : digits s ≡ 0 = sym (all_counted s n e (omega (arith, z))) ∙ z in rw d refl
+no_number s n e (inr (some, many)) =
+    let more : most_digits < digits s = omega (arith, (counted (most_digits + 1) s).1, e, many) in
+    let l : leb (digits s) most_digits ≡ false = lt-leb _ _ more in
+    let f : leb 1 (digits s) ≡ true = le-leb _ _ (omega (arith, more)) in
+    rw (f, l) refl
 
 -- the number at the front, where there are 1 to 13 digits
 pub number_read : (s : List ℕ) (n : ℕ) (ds rest : List ℕ) (v : ℕ) → n ≡ digits s → (n ≡ 0 → ⊥) → n ≤ most_digits → ds ≡ take n s → rest ≡ drop n s → v ≡ written ds → (number s ≡ Some (v, rest)) × (v < 10 ^ most_digits)

@@ -1,5 +1,5 @@
 // The fields of a line, read one after another from its front.
-ghost use Rattle.std.specs.Prelude.{◌≡◌, ◌^◌, ◌<◌, ◌≤◌, true, Some, None, IfNone, IfSome, MatchOption, nat_eq, length};
+ghost use Rattle.std.specs.Prelude.{◌≡◌, ◌+◌, ◌^◌, ◌<◌, ◌≤◌, true, Some, None, IfNone, IfSome, MatchOption, nat_eq, length, take};
 ghost use Rattle.std.specs.Str.{all_ascii_digits};
 ghost use Rattle.lines.specs.Grammar.{most_digits, digits, written, number, behind, field, signed_field, Taken};
 
@@ -11,6 +11,13 @@ fn count_digits(bytes: &[u8]) -> usize
     ensures { result ≡ digits bytes.now }
 {
     bytes.iter().take_while(|b| b.is_ascii_digit()).count()
+}
+
+// The first bytes of a field, one more than the digits of a number.
+fn front_of(bytes: &[u8]) -> &[u8]
+    ensures { result.now ≡ take (most_digits + 1) bytes.now }
+{
+    bytes.get(..=MOST_DIGITS).unwrap_or(bytes)
 }
 
 // The number that 13 digits at most write.
@@ -62,7 +69,7 @@ impl<'a> Fields<'a> {
         ensures taken { Taken number self.old.rest.now self.new.rest.now result }
         ensures bound { IfSome result (λ n. n < 10 ^ most_digits) }
     {
-        let count = count_digits(self.rest);
+        let count = count_digits(front_of(self.rest));
         if count == 0 || count > MOST_DIGITS {
             return None;
         }
