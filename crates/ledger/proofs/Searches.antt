@@ -1,6 +1,5 @@
 -- What a search of the code finds, in the words of the rules. Assumes nothing.
-use Rattle.std.proofs.Common.{◌≡◌, ℕ, suc, ◌+◌, ◌<◌, ◌≤◌, Bool, true, false, cond, ◌||◌, ltb, List, [], ◌∷◌, ◌++◌, map, length, get_or, take, Some, None, refl, ap, ◌∙◌, arith}
-use Rattle.std.proofs.lemmas.List.{length-take-le, take_more}
+use Rattle.std.proofs.Common.{◌≡◌, ℕ, suc, ◌+◌, ◌<◌, ◌≤◌, Bool, true, false, cond, ◌||◌, ltb, List, [], ◌∷◌, ◌++◌, map, length, Some, None, refl, ap, arith}
 use Rattle.std.specs.List.{position, position_or_len}
 use Rattle.ledger.specs.Searching.{any_indexed, highest}
 
@@ -26,11 +25,6 @@ module _ {X : Type 0} (p : X → Bool) where
       go false t e = grind arith
 
   -- one more element at the end is the highest if it passes
-  highest_push : (xs : List X) (x : X) → highest p (xs ++ x ∷ []) ≡ cond (p x) (suc (length xs)) (highest p xs)
+  pub highest_push : (xs : List X) (x : X) → highest p (xs ++ x ∷ []) ≡ cond (p x) (suc (length xs)) (highest p xs)
   highest_push [] x = grind arith
   highest_push (y ∷ ys) x = let ih = highest_push ys x in grind arith
-
-  pub highest_more : (xs : List X) (i : ℕ) (d : X) → i < length xs → highest p (take (i + 1) xs) ≡ cond (p (get_or xs i d)) (i + 1) (highest p (take i xs))
-  highest_more xs i d h =
-      ap (highest p) (take_more xs i d h) ∙ highest_push (take i xs) (get_or xs i d)
-      ∙ ap (λ n. cond (p (get_or xs i d)) n (highest p (take i xs))) (omega (arith, length-take-le i xs (omega arith)))

@@ -4,8 +4,14 @@ use lib.ListN.{length-map, get_or-map}
 use Rattle.std.proofs.lemmas.List.{get_or_default}
 use Rattle.ledger.specs.Model.{row, no_row}
 use Rattle.ledger.specs.View.{view, row_view}
+use Rattle.ledger.specs.declared.job.JobKind.TheVariants.{Amendment}
+use Rattle.ledger.specs.declared.job.State.TheVariants.{NeverOpened}
 use Rattle.ledger.specs.declared.job.Row.{Row}
 use Rattle.ledger.specs.declared.ledger.Ledger.{Ledger}
+
+-- what the code reads behind the last row
+abbrev pub no_table_row : Row
+no_table_row = record { kind = Amendment; state = NeverOpened; reads = record { items = []; len = 0 }; writes = record { items = []; len = 0 }; exchanges = [] }
 
 -- a row of the table, read with any default
 pub row_of_view : (l : Ledger) (j : ℕ) (d : Row) → j < length l.rows → row (view l) j ≡ row_view (get_or l.rows j d)

@@ -1,4 +1,5 @@
 pub mod Limits
+pub mod Bounded
 pub mod Searching
 pub mod Offices
 pub mod Faults

@@ -1,10 +1,10 @@
 // Hand in: a prepare goes to every office of a listed record, and the vote begins.
-ghost use Rattle.std.specs.Prelude.{◌≡◌, ◌<◌, ◌&&◌, if◌then◌else◌};
+ghost use Rattle.std.specs.Prelude.{◌≡◌, ◌&&◌, if◌then◌else◌};
 ghost use Rattle.std.specs.List.{list_any};
-ghost use Rattle.ledger.specs.Delivering.{is_concerned as concerned, prepare_waits, prepares as prepares_of, handed_in, is_empty, hand_in_fault, hand_in_done};
+ghost use Rattle.ledger.specs.Delivering.{prepare_waits, prepares as prepares_of, handed_in, is_empty, hand_in_fault, hand_in_done};
 ghost use Rattle.ledger.specs.Faults.{told, guarded};
-ghost use Rattle.ledger.specs.Model.{idle};
 ghost use Rattle.ledger.specs.Offices.{office_of, owns as owned};
+ghost use Rattle.ledger.specs.Searching.{map_indexed};
 ghost use Rattle.ledger.specs.View.{view, row_view};
 ghost use Rattle.ledger.specs.declared.job.State.TheVariants.{Accepted, Voting};
 
@@ -15,44 +15,30 @@ use crate::limits::MOST_OFFICES;
 use crate::lookups::Entry;
 use crate::message::{Exchange, Message};
 use crate::numbers::job_number;
-use crate::office::Office;
 use crate::offices::Offices;
-use std::array;
 
-// Whether some entry is of a record of the office.
-fn any_owned<E: Entry>(entries: &[E], office: Office) -> bool
-    ensures { result ≡ list_any (λ x. owned office.offices office.number (E.record_of x)) entries.now }
+// A prepare waits at each office that owns the record of an entry.
+fn ask_owners<E: Entry>(exchanges: &mut [Exchange; MOST_OFFICES], entries: &[E], offices: Offices)
+    ensures { exchanges.new ≡ map_indexed (λ o e. if list_any (λ x. owned offices o (E.record_of x)) entries.now then prepare_waits else e) 0 exchanges.old }
 {
-    entries.iter().any(|entry| office.owns(entry.record()))
+    for entry in entries {
+        exchanges[offices.office_of(entry.record()) as usize] = Exchange {
+            waiting: Some(Message::Prepare),
+            vote: None,
+        };
+    }
 }
 
 impl Row {
-    // Whether a record of the office is listed.
-    fn concerns(&self, office: Office) -> bool
-        ensures { result ≡ concerned (office_of office.offices) (row_view self.now) office.number }
-    {
-        any_owned(self.reads.as_slice(), office) || any_owned(self.writes.as_slice(), office)
-    }
-
-    // How a job that is handed in stands with the office of a number.
-    fn first_exchange(&self, offices: Offices, number: u8) -> Exchange
-        requires { number < 8 }
-        ensures { result ≡ (if concerned (office_of offices) (row_view self.now) number then prepare_waits else idle) }
-    {
-        if self.concerns(Office { offices, number }) {
-            Exchange {
-                waiting: Some(Message::Prepare),
-                vote: None,
-            }
-        } else {
-            Exchange::default()
-        }
-    }
-
+    // How a job that is handed in stands with each office. One pass over the entries, since there are few of them:
+    // a search of them for each office takes twice the time.
     fn prepares(&self, offices: Offices) -> [Exchange; MOST_OFFICES]
         ensures { result ≡ prepares_of (office_of offices) (row_view self.now) }
     {
-        array::from_fn(|number| self.first_exchange(offices, number as u8))
+        let mut exchanges = [Exchange::default(); MOST_OFFICES];
+        ask_owners(&mut exchanges, self.reads.as_slice(), offices);
+        ask_owners(&mut exchanges, self.writes.as_slice(), offices);
+        exchanges
     }
 
     // A job with no record is decided on the spot, and accepted.

@@ -1,11 +1,13 @@
 // Decisions: a commit makes the job's writes versions of the office's records, and either outcome ends the office's holds.
 ghost use Rattle.std.specs.Prelude.{◌≡◌, ◌≤◌, map, length};
+ghost use Rattle.ledger.specs.Bounded.{elements};
 ghost use Rattle.ledger.specs.Searching.{map_indexed};
 ghost use Rattle.ledger.specs.Delivering.{installed, record_installed, with_exchange, install_done};
 ghost use Rattle.ledger.specs.Model.{row as row_of, versions, put_row, idle};
 ghost use Rattle.ledger.specs.Offices.{office_of};
 ghost use Rattle.ledger.specs.View.{view, row_view};
 
+use crate::bounded::Bounded;
 use crate::job::{Row, Version, Write};
 use crate::ledger::Ledger;
 use crate::limits::{MOST_LISTED, MOST_VERSIONS, RECORDS};
@@ -48,8 +50,8 @@ fn install_versions(
 
 impl Row {
     // The row's step at a commit: its writes have their versions, and the office's holds for it end.
-    fn settle(&mut self, writes: ArrayVec<Write, MOST_LISTED>, office: Office)
-        ensures { row_view self.new ≡ with_exchange (record { kind = self.old.kind; state = self.old.state; reads = self.old.reads.items; writes = writes.items; exchanges = self.old.exchanges }) office.number idle }
+    fn settle(&mut self, writes: Bounded<Write, MOST_LISTED>, office: Office)
+        ensures { row_view self.new ≡ with_exchange (record { kind = self.old.kind; state = self.old.state; reads = elements self.old.reads; writes = elements writes; exchanges = self.old.exchanges }) office.number idle }
     {
         self.writes = writes;
         self.exchanges[office.index()] = Exchange::default();
@@ -87,11 +89,15 @@ impl Ledger {
         }
     }
 
-    fn installed_writes(&self, job: u8, office: Office) -> ArrayVec<Write, MOST_LISTED>
-        ensures { result.items ≡ map (installed (office_of office.offices) (view self.now) office.number) (row_of (view self.now) job).writes }
+    fn installed_writes(
+        &self,
+        writes: &Bounded<Write, MOST_LISTED>,
+        office: Office,
+    ) -> Bounded<Write, MOST_LISTED>
+        ensures { elements result ≡ map (installed (office_of office.offices) (view self.now) office.number) (elements writes.now) }
     {
-        let mut installed = ArrayVec::new();
-        for write in self.rows[job as usize].writes.as_slice() {
+        let mut installed = Bounded::new();
+        for write in writes.as_slice() {
             installed.push(self.installed(*write, office));
         }
         installed
@@ -101,12 +107,11 @@ impl Ledger {
     pub(crate) fn install(&mut self, job: u8, office: Office)
         ensures { view self.new ≡ install_done (office_of office.offices) (view self.old) job office.number }
     {
-        let installed = self.installed_writes(job, office);
-        let rows = &mut self.rows;
-        let records = &mut self.records;
-        let row = &mut rows[job as usize];
-        install_versions(records, row.writes.as_slice(), job, office);
-        row.settle(installed, office);
+        // a copy of the few writes, since the pass over all records is quicker over it than over the row
+        let writes = self.rows[job as usize].writes;
+        let installed = self.installed_writes(&writes, office);
+        install_versions(&mut self.records, writes.as_slice(), job, office);
+        self.rows[job as usize].settle(installed, office);
     }
 
     // Delivers the decision to abort a job to an office: the office's holds for it end.

@@ -3,9 +3,9 @@ ghost use Rattle.std.specs.Prelude.{◌≡◌};
 ghost use Rattle.ledger.specs.Marks.{mark_number};
 ghost use Rattle.ledger.specs.States.{state_number};
 
+use crate::bounded::Bounded;
 use crate::limits::{MOST_LISTED, MOST_OFFICES};
 use crate::message::Exchange;
-use arrayvec::ArrayVec;
 
 // What a job may do: an amendment is an update transaction, an inspection a read-only one.
 #[derive(Clone, Copy, PartialEq, Eq, Debug)]
@@ -100,11 +100,11 @@ pub struct Version {
 }
 
 // All that the ledger keeps of one job. Both lists are in the order of first use.
-#[derive(Drop)]
+#[derive(Clone, Copy)]
 pub struct Row {
     pub kind: JobKind,
     pub state: State,
-    pub reads: ArrayVec<Read, MOST_LISTED>,
-    pub writes: ArrayVec<Write, MOST_LISTED>,
+    pub reads: Bounded<Read, MOST_LISTED>,
+    pub writes: Bounded<Write, MOST_LISTED>,
     pub exchanges: [Exchange; MOST_OFFICES],
 }

@@ -3,6 +3,7 @@ ghost use Rattle.std.specs.Prelude.{◌≡◌};
 ghost use Rattle.ledger.specs.Model.{unused as unused_row, new_ledger};
 ghost use Rattle.ledger.specs.View.{view, row_view};
 
+use crate::bounded::Bounded;
 use crate::job::{JobKind, Row, State, Version};
 use crate::limits::{JOBS, MOST_OFFICES, MOST_VERSIONS, RECORDS};
 use crate::message::Exchange;
@@ -27,8 +28,8 @@ impl Row {
         Row {
             kind: JobKind::Amendment,
             state: State::NeverOpened,
-            reads: ArrayVec::new(),
-            writes: ArrayVec::new(),
+            reads: Bounded::new(),
+            writes: Bounded::new(),
             exchanges: [Exchange::default(); MOST_OFFICES],
         }
     }

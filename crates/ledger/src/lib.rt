@@ -3,6 +3,7 @@
 #![tactic(auto, using(std::proofs::lemmas::Grind::common_steps, crate::proofs::Tables::one_row))]
 
 pub mod answering;
+pub mod bounded;
 pub mod delivering;
 pub mod fault;
 pub mod handing_in;

@@ -57,17 +57,16 @@ impl Row {
 
 impl Ledger {
     // The highest version of a record whose job is answered, or 0, the version of a blank.
-    // A loop: with `rposition`, with `filter` and `last`, or with `fold` in its place the goal stays open.
+    // A loop that stops at the first answered one from the end: with `rposition` in its place the goal stays open.
     fn newest_answered(&self, record: u8) -> u8
         ensures { result ≡ newest_answered (view self.now) «record» }
     {
-        let mut newest = 0;
-        for (index, version) in self.versions(record).iter().enumerate() {
+        for (index, version) in self.versions(record).iter().enumerate().rev() {
             if self.rows[version.job as usize].is_answered() {
-                newest = index as u8 + 1;
+                return index as u8 + 1;
             }
         }
-        newest
+        0
     }
 
     // The version that a first reading is told: an inspection sees answered jobs only.

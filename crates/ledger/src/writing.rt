@@ -31,7 +31,10 @@ impl Row {
         ensures { row_view self.new ≡ with_write (row_view self.old) «record» place }
     {
         match write_index(self.writes.as_slice(), record) {
-            Some(index) => self.writes[index].place = place,
+            Some(index) => {
+                let write = self.writes.as_slice()[index];
+                self.writes.replace(index, Write { place, ..write });
+            }
             None => self.writes.push(Write {
                 record,
                 place,
