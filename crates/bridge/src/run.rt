@@ -119,10 +119,12 @@ fn in_cells<V: Value, R, F: FnOnce(&mut House<CellShelf<'_, V>>) -> R>(
     capacity: u64,
     action: F,
 ) -> R
+where
+    V::Cell: Default,
     requires callable { F.IsAlwaysCallable action }
     requires size { CELLS * type_size V.Cell.row < 2 ^ 63 }
 {
-    let mut cells = [V::spare().to_cell(); CELLS];
+    let mut cells = [V::Cell::default(); CELLS];
     let shelf = CellShelf::new(front(&mut cells, capacity));
     action(&mut House::new(offices, shelf))
 }
